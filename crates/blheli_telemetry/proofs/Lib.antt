@@ -1,0 +1,11 @@
+pub mod ByCases
+pub mod Table
+pub mod CrcTable
+pub mod CrcLaws
+pub mod BigEndianLaws
+pub mod FrameLaws
+pub mod ParserLaws
+pub mod DecodedLaws
+pub mod CaptureLaws
+pub mod StreamLaws
+pub mod RoundTrip

@@ -1,0 +1,109 @@
+-- What a parser gives, and what it then holds, goes by the bytes that it holds alone: not by stale bytes, nor by its counts.
+use mathlib.Core.Path.{_≡_, refl, ap, sym, _∙_}
+use mathlib.Core.List.{List, [], _∷_, _++_}
+use Prim.Native.Nat.{ℕ, suc, _+_, _<_, _≤_, min}
+use native.Mathlib.Omega.{arith}
+use native.Mathlib.Numerals.{add-one}
+use lib.ListN.{length, set, take, drop, length-set, length-take, length-drop, length-append, drop-of-length-le}
+use lib.Seq.{take-suc-set, set-split, take-all, take-at}
+use borrow.Author.Tests.{lt-ltb, le-ltb}
+use Rattle.blheli_telemetry.specs.Reply.{Reply, accepted, refused}
+use Rattle.blheli_telemetry.specs.Frame.{readFrame}
+use Rattle.blheli_telemetry.specs.Parser.{shiftedDown, collected, completed, pushOf, newParser, resetOf}
+use Rattle.blheli_telemetry.specs.Stream.{held, given, kept, givenAfter, heldAfter, framed, parsedBy}
+use Rattle.blheli_telemetry.specs.declared.frame.EscTelemetry.{EscTelemetry}
+use Rattle.blheli_telemetry.specs.declared.parser.ParserStats.{ParserStats}
+use Rattle.blheli_telemetry.specs.declared.parser.Parsed.{Parsed}
+use Rattle.blheli_telemetry.specs.declared.parser.StreamParser.{StreamParser}
+use Rattle.blheli_telemetry.proofs.ByCases.{below-or-not}
+use Rattle.blheli_telemetry.proofs.ParserLaws.{push-few, push-tenth}
+
+-- the array with the tenth byte
+tenth : (xs : List ℕ) (b : ℕ) → length xs ≡ 10 → set xs 9 b ≡ take 9 xs ++ b ∷ []
+tenth xs b l =
+    let h : 9 < length xs = omega arith in
+    let z : length xs ≤ 10 = omega arith in
+    set-split xs 9 b h ∙ ap (λ (r : List ℕ). take 9 xs ++ b ∷ r) (drop-of-length-le xs z)
+
+-- what is left in front when the oldest byte has gone
+shifted-front : (f : List ℕ) → length f ≡ 10 → take 9 (shiftedDown f) ≡ drop 1 f
+unfolding shiftedDown
+shifted-front f l =
+    let n : length (drop 1 f) ≡ 9 = simp length-drop (omega arith) in
+    let m : length (drop 1 f) ≤ 9 = omega arith in
+    ap (λ (r : List ℕ). take 9 (r ++ drop 9 f)) (take-all 9 (drop 1 f) m) ∙ take-at (drop 1 f) (drop 9 f) 9 n
+
+completed-held : (f : List ℕ) (s : ParserStats) (r : Reply EscTelemetry) → length f ≡ 10 → held (completed f s r .parser) ≡ kept f r
+completed-held f s (accepted t) l = refl
+completed-held f s (refused n) l = shifted-front f l
+
+completed-given : (f : List ℕ) (s : ParserStats) (r : Reply EscTelemetry) → completed f s r .parsed ≡ given r
+completed-given f s (accepted t) = refl
+completed-given f s (refused n) = refl
+
+completed-ten : (f : List ℕ) (s : ParserStats) (r : Reply EscTelemetry) → length f ≡ 10 → length (completed f s r .parser .bytes) ≡ 10
+unfolding shiftedDown
+completed-ten f s (accepted t) l = l
+completed-ten f s (refused n) l = simp (length-append, length-take, length-drop) (omega arith)
+
+-- every parser, however it came about: an array of ten is all that is asked
+module _ (p : StreamParser) (b : ℕ) (ten : length (p .bytes) ≡ 10) where
+  few : p .len < 9 → held p ≡ take (p .len) (p .bytes)
+  few h = let e : min (p .len) 9 ≡ p .len = omega arith in rw e
+
+  nine : 9 ≤ p .len → held p ≡ take 9 (p .bytes)
+  nine h = let e : min (p .len) 9 ≡ 9 = omega arith in rw e
+
+  few-length : p .len < 9 → length (held p) < 9
+  few-length h = simp length-take (omega arith)
+
+  nine-length : 9 ≤ p .len → 9 ≤ length (held p)
+  nine-length h = simp length-take (omega arith)
+
+  filled : 9 ≤ p .len → set (p .bytes) 9 b ≡ held p ++ b ∷ []
+  filled h = tenth (p .bytes) b ten ∙ rw (nine h)
+
+  pub given-by-held : pushOf p b .parsed ≡ givenAfter (held p) b
+  unfolding givenAfter
+  given-by-held =
+      below-or-not (p .len) 9
+      (λ h. rw (push-few p b h, lt-ltb _ _ (few-length h)))
+      (λ h. rw (push-tenth p b h, le-ltb _ _ (nine-length h), filled h) (completed-given (held p ++ b ∷ []) (p .stats) (readFrame (held p ++ b ∷ []))))
+
+  pub held-by-held : held (pushOf p b .parser) ≡ heldAfter (held p) b
+  unfolding heldAfter
+  held-by-held =
+      below-or-not (p .len) 9
+      (λ h.
+        let e : min (p .len + 1) 9 ≡ suc (p .len) = omega arith in
+        let i : p .len < length (p .bytes) = omega arith in
+        rw (push-few p b h, lt-ltb _ _ (few-length h), few h, e) (take-suc-set (p .bytes) (p .len) b i))
+      (λ h.
+        let l : length (held p ++ b ∷ []) ≡ 10 = ap length (sym (filled h)) ∙ simp length-set ten in
+        rw (push-tenth p b h, le-ltb _ _ (nine-length h), filled h)
+        (completed-held (held p ++ b ∷ []) (p .stats) (readFrame (held p ++ b ∷ [])) l))
+
+  pub keeps-ten : length (pushOf p b .parser .bytes) ≡ 10
+  keeps-ten =
+      below-or-not (p .len) 9
+      (λ h. rw (push-few p b h) (simp length-set ten))
+      (λ h. rw (push-tenth p b h) (completed-ten (set (p .bytes) 9 b) (p .stats) (readFrame (set (p .bytes) 9 b)) (simp length-set ten)))
+
+-- over a stream of bytes the parser's own calls give what the bytes held give
+pub parsed-by-held : (p : StreamParser) (bs : List ℕ) → length (p .bytes) ≡ 10 → parsedBy p bs ≡ framed (held p) bs
+unfolding parsedBy framed
+parsed-by-held p [] ten = refl
+parsed-by-held p (b ∷ bs) ten =
+    rw (given-by-held p b ten, parsed-by-held (pushOf p b .parser) bs (keeps-ten p b ten), held-by-held p b ten)
+
+-- two parsers that hold the same bytes give the same at every byte of every stream
+pub parsed-alike : (p q : StreamParser) → length (p .bytes) ≡ 10 → length (q .bytes) ≡ 10 → held p ≡ held q
+    → (bs : List ℕ) → parsedBy p bs ≡ parsedBy q bs
+parsed-alike p q ten ten′ same bs = parsed-by-held p bs ten ∙ ap (λ (xs : List ℕ). framed xs bs) same ∙ sym (parsed-by-held q bs ten′)
+
+-- a new parser and one that was reset hold nothing
+pub new-holds : held newParser ≡ []
+new-holds = refl
+
+pub reset-holds : (p : StreamParser) → held (resetOf p) ≡ []
+reset-holds p = refl

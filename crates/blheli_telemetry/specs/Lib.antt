@@ -1,0 +1,8 @@
+pub mod Choice
+pub mod Reply
+pub mod BigEndian
+pub mod Crc
+pub mod Frame
+pub mod Parser
+pub mod Stream
+pub mod Capture

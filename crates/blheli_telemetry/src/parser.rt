@@ -1,0 +1,169 @@
+// A byte-stream parser with fixed storage.
+//
+// A CRC failure advances by one byte because the protocol has no sync byte. This recovers from
+// dropped and noisy bytes while memory and work stay bounded.
+ghost use mathlib.Core.Path.{_≡_};
+ghost use Rattle.blheli_telemetry.specs.Parser.{saturated, newParser, countedGood, countedBad, shiftedDown, pushOf, resetOf};
+use crate::frame::Decoded;
+use crate::frame::EscTelemetry;
+use crate::frame::decode;
+
+pub struct ParserStats {
+    pub valid_frames: u32,
+    pub crc_failures: u32,
+    pub discarded_bytes: u32,
+}
+
+pub struct StreamParser {
+    bytes: [u8; 10],
+    len: usize,
+    stats: ParserStats,
+}
+
+// What a byte brings out of the parser.
+pub enum Parsed {
+    Sample(EscTelemetry),
+    Nothing,
+}
+
+pub struct Pushed {
+    pub parser: StreamParser,
+    pub parsed: Parsed,
+}
+
+impl StreamParser {
+    pub fn new() -> Self
+        ensures { λ r. ⌜ r ≡ newParser ⌝ }
+    {
+        let bytes = [0u8; 10];
+        let stats = ParserStats {
+            valid_frames: 0,
+            crc_failures: 0,
+            discarded_bytes: 0,
+        };
+        Self {
+            bytes,
+            len: 0,
+            stats,
+        }
+    }
+
+    // The parser with one byte more, and what that byte brings out of it.
+    pub fn pushed(self, byte: u8) -> Pushed
+        ensures { λ r. ⌜ r ≡ pushOf self byte ⌝ }
+    {
+        let len = self.len;
+        let mut bytes = self.bytes;
+        let stats = self.stats;
+        if len < 9 {
+            bytes[len] = byte;
+            let parser = StreamParser {
+                bytes,
+                len: len + 1,
+                stats,
+            };
+            return Pushed {
+                parser,
+                parsed: Parsed::Nothing,
+            };
+        }
+        bytes[9] = byte;
+        let Decoded::Telemetry(sample) = decode(&bytes) else {
+            let rest = shifted_down(bytes);
+            let stats = counted_bad(stats);
+            let parser = StreamParser {
+                bytes: rest,
+                len: 9,
+                stats,
+            };
+            return Pushed {
+                parser,
+                parsed: Parsed::Nothing,
+            };
+        };
+        let stats = counted_good(stats);
+        let parser = StreamParser {
+            bytes,
+            len: 0,
+            stats,
+        };
+        Pushed {
+            parser,
+            parsed: Parsed::Sample(sample),
+        }
+    }
+
+    // The parser with no byte held and its counts kept.
+    pub fn emptied(self) -> StreamParser
+        ensures { λ r. ⌜ r ≡ resetOf self ⌝ }
+    {
+        let bytes = self.bytes;
+        let stats = self.stats;
+        StreamParser {
+            bytes,
+            len: 0,
+            stats,
+        }
+    }
+
+    pub fn stats(self) -> ParserStats
+        ensures { λ r. ⌜ r ≡ self .stats ⌝ }
+    {
+        self.stats
+    }
+
+    // As `pushed`, on the caller's parser in place.
+    pub fn push(&mut self, byte: u8) -> Parsed
+        ensures { λ r. ⌜ (r ≡ pushOf (now (self .entry)) byte .parsed) × (now (self .exit) ≡ pushOf (now (self .entry)) byte .parser) ⌝ }
+    {
+        let done = (*self).pushed(byte);
+        *self = done.parser;
+        done.parsed
+    }
+
+    // As `emptied`, on the caller's parser in place.
+    pub fn reset(&mut self)
+        ensures { λ _. ⌜ now (self .exit) ≡ resetOf (now (self .entry)) ⌝ }
+    {
+        self.len = 0;
+    }
+}
+
+fn counted_good(stats: ParserStats) -> ParserStats
+    ensures { λ r. ⌜ r ≡ countedGood stats ⌝ }
+{
+    ParserStats {
+        valid_frames: saturating_inc(stats.valid_frames),
+        crc_failures: stats.crc_failures,
+        discarded_bytes: stats.discarded_bytes,
+    }
+}
+
+fn counted_bad(stats: ParserStats) -> ParserStats
+    ensures { λ r. ⌜ r ≡ countedBad stats ⌝ }
+{
+    ParserStats {
+        valid_frames: stats.valid_frames,
+        crc_failures: saturating_inc(stats.crc_failures),
+        discarded_bytes: saturating_inc(stats.discarded_bytes),
+    }
+}
+
+fn saturating_inc(count: u32) -> u32
+    ensures { λ r. ⌜ r ≡ saturated count ⌝ }
+{
+    if count < 4294967295 { count + 1 } else { count }
+}
+
+// Each byte but the first, one place down: the oldest is dropped.
+fn shifted_down(bytes: [u8; 10]) -> [u8; 10]
+    ensures { λ r. ⌜ r ≡ shiftedDown bytes ⌝ }
+{
+    let mut shifted = bytes;
+    let mut i: usize = 0;
+    while i < 9 {
+        shifted[i] = bytes[i + 1];
+        i += 1;
+    }
+    shifted
+}
