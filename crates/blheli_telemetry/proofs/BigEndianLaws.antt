@@ -58,9 +58,9 @@ overwrite-append at n a b s e h =
     let x : List ℕ = take at s ++ a in
     let m : length (take at s ++ a) ≡ at + length a = simp (length-append, length-take) (omega arith) in
     let before : take (at + length a) (take at s ++ (a ++ drop (at + length a) s)) ≡ take at s ++ a =
-        rw (← append-assoc) (take-at x (drop (at + length a) s) (at + length a) m) in
+    rw (← append-assoc) (take-at x (drop (at + length a) s) (at + length a) m) in
     let after : drop (at + length a + length b) (take at s ++ (a ++ drop (at + length a) s)) ≡ drop (at + length a + length b) s =
-        rw (← append-assoc, ← m) (drop-append-add x (drop (length x) s) (length b) ∙ drop-drop (length b) (length x) s) in
+    rw (← append-assoc, ← m) (drop-append-add x (drop (length x) s) (length b) ∙ drop-drop (length b) (length x) s) in
     rw (← e, before, after, length-append, add-assoc) (simp append-assoc)
 
 -- two stores, one after the other

@@ -37,11 +37,11 @@ pub read-accepted : (f : List ℕ) (t : EscTelemetry) → readFrame f ≡ accept
 unfolding readFrame
 read-accepted f t e = go (eqb (length f) 10) (eqb (crcOf (take 9 f)) (getD f 9 0)) refl refl e
   where
-  go : (n c : Bool) → eqb (length f) 10 ≡ n → eqb (crcOf (take 9 f)) (getD f 9 0) ≡ c
-      → pick n (pick c (accepted (telemetryOf f)) (refused 10)) (refused 5) ≡ accepted t → Accepted f t
-  go true true n c e = record { ten = eqb-true _ _ n; check = eqb-true _ _ c; telemetry = cc }
-  go true false n c e = absurd (false≢true (ap isAccepted e))
-  go false c n _ e = absurd (false≢true (ap isAccepted e))
+    go : (n c : Bool) → eqb (length f) 10 ≡ n → eqb (crcOf (take 9 f)) (getD f 9 0) ≡ c
+        → pick n (pick c (accepted (telemetryOf f)) (refused 10)) (refused 5) ≡ accepted t → Accepted f t
+    go true true n c e = record { ten = eqb-true _ _ n; check = eqb-true _ _ c; telemetry = cc }
+    go true false n c e = absurd (false≢true (ap isAccepted e))
+    go false c n _ e = absurd (false≢true (ap isAccepted e))
 
 pub payload-length : (t : EscTelemetry) → length (payloadOf t) ≡ 9
 unfolding payloadOf bytesOf
@@ -50,9 +50,9 @@ payload-length t = refl
 -- five stores, each where the one before ends, make the payload
 pub payload-built : (t : EscTelemetry) (out : List ℕ) → 9 ≤ length out → t .«temperature_c» < 256
     → overwrite 7 (bytesOf 2 (t .«erpm_div100»))
-      (overwrite 5 (bytesOf 2 (t .«consumption_mah»))
-      (overwrite 3 (bytesOf 2 (t .«current_ca»)) (overwrite 1 (bytesOf 2 (t .«voltage_cv»)) (set out 0 (t .«temperature_c»)))))
-      ≡ overwrite 0 (payloadOf t) out
+    (overwrite 5 (bytesOf 2 (t .«consumption_mah»))
+    (overwrite 3 (bytesOf 2 (t .«current_ca»)) (overwrite 1 (bytesOf 2 (t .«voltage_cv»)) (set out 0 (t .«temperature_c»)))))
+    ≡ overwrite 0 (payloadOf t) out
 unfolding payloadOf bytesOf
 payload-built t out room byte =
     let a = bytesOf 1 (t .«temperature_c») in

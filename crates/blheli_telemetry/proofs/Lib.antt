@@ -9,3 +9,4 @@ pub mod DecodedLaws
 pub mod CaptureLaws
 pub mod StreamLaws
 pub mod RoundTrip
+pub mod Cases

@@ -75,13 +75,13 @@ module _ (p : StreamParser) (b : ℕ) (ten : length (p .bytes) ≡ 10) where
   held-by-held =
       below-or-not (p .len) 9
       (λ h.
-        let e : min (p .len + 1) 9 ≡ suc (p .len) = omega arith in
-        let i : p .len < length (p .bytes) = omega arith in
-        rw (push-few p b h, lt-ltb _ _ (few-length h), few h, e) (take-suc-set (p .bytes) (p .len) b i))
+      let e : min (p .len + 1) 9 ≡ suc (p .len) = omega arith in
+      let i : p .len < length (p .bytes) = omega arith in
+      rw (push-few p b h, lt-ltb _ _ (few-length h), few h, e) (take-suc-set (p .bytes) (p .len) b i))
       (λ h.
-        let l : length (held p ++ b ∷ []) ≡ 10 = ap length (sym (filled h)) ∙ simp length-set ten in
-        rw (push-tenth p b h, le-ltb _ _ (nine-length h), filled h)
-        (completed-held (held p ++ b ∷ []) (p .stats) (readFrame (held p ++ b ∷ [])) l))
+      let l : length (held p ++ b ∷ []) ≡ 10 = ap length (sym (filled h)) ∙ simp length-set ten in
+      rw (push-tenth p b h, le-ltb _ _ (nine-length h), filled h)
+      (completed-held (held p ++ b ∷ []) (p .stats) (readFrame (held p ++ b ∷ [])) l))
 
   pub keeps-ten : length (pushOf p b .parser .bytes) ≡ 10
   keeps-ten =

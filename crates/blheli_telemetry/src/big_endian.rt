@@ -1,6 +1,6 @@
 // Numbers of 16 bits, high byte first.
 ghost use mathlib.Core.Path.{_≡_};
-ghost use Prim.Native.Nat.{_+_, _≤_};
+ghost use Prim.Native.Nat.{_+_, _*_, _≤_};
 ghost use lib.ListN.{length};
 ghost use Rattle.blheli_telemetry.specs.BigEndian.{numberAt, bytesOf, overwrite};
 
@@ -8,7 +8,13 @@ pub(crate) fn be16_at(bytes: &[u8], at: usize) -> u16
     requires { ⌜ at + 2 ≤ length (now bytes) ⌝ }
     ensures { λ r. ⌜ r ≡ numberAt 2 (now (bytes .entry)) at ⌝ }
 {
-    (bytes[at] as u16) * 256 + (bytes[at + 1] as u16)
+    be16(bytes[at], bytes[at + 1])
+}
+
+fn be16(high: u8, low: u8) -> u16
+    ensures { λ r. ⌜ r ≡ high * 256 + low ⌝ }
+{
+    (high as u16) * 256 + (low as u16)
 }
 
 pub(crate) fn put_be16(out: &mut [u8], at: usize, number: u16)

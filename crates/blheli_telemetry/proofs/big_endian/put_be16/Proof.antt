@@ -27,7 +27,7 @@ same-length : tie.Need-same-length
 same-length c = search needs
 
 returns : tie.Need-returns
-returns c = 
+returns c =
     let a = c .args in
     rw (bytes-two (a .number) (c .fits .number .fits)) (sym (overwrite-two (a .at) (a .number / 256) (a .number % 256) (a .out .now) (c .pre)))
 

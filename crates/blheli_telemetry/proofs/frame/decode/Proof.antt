@@ -20,7 +20,7 @@ shared-slice-read-if2 : tie.Need-shared-slice-read-if2
 shared-slice-read-if2 c = search needs
 
 returns-2 : tie.Need-returns-2
-returns-2 c = 
+returns-2 c =
     let s = c .before .before .before .before in
     sym (read-bad (s .before .before .args .frame .now) (s .if1 .left) (λ e. c .if2 .taken (c .before .before .crc8 .ensures ∙ e)))
 
@@ -28,7 +28,7 @@ telemetry-of-requires : tie.Need-telemetry-of-requires
 telemetry-of-requires c κs = search needs
 
 returns-3 : tie.Need-returns-3
-returns-3 c = 
+returns-3 c =
     let s = c .before .before .before .before .before in
     rw (c .telemetry-of .ensures)
     (sym (read-good (s .before .before .args .frame .now) (s .if1 .left) (sym (c .before .before .before .crc8 .ensures) ∙ c .before .if2 .left)))

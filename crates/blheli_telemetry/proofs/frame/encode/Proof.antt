@@ -31,7 +31,7 @@ same-length : tie.Need-same-length
 same-length c = search needs
 
 returns-2 : tie.Need-returns-2
-returns-2 c = 
+returns-2 c =
     let put = c .before .before .before .before in
     let room = put .before .before in
     let t = room .before .before .args .telemetry in

@@ -46,7 +46,7 @@ returns c =
     let start = k1 .before .before .before in
     fourth .put-be164 .ensures
     ∙ rw (k3 .put-be163 .ensures, k2 .put-be162 .ensures, k1 .put-be16 .ensures)
-      (payload-built (start .args .telemetry) (start .args .out .now) (start .pre) (omega (arith, start .good)))
+    (payload-built (start .args .telemetry) (start .args .out .now) (start .pre) (omega (arith, start .good)))
 
 pub put-payload-spec : {M : Type 1} → statement M
 put-payload-spec =

@@ -22,7 +22,7 @@ be16-at-requires-4 c κs = search needs
 
 returns : tie.Need-returns
 unfolding telemetryOf
-returns c = 
+returns c =
     let frame = c .before .before .before .before .before .before .args .frame .now in
     rw (← number-one frame 0, c .be16-at4 .ensures, c .before .be16-at3 .ensures, c .before .before .be16-at2 .ensures, c .before .before .before .be16-at .ensures)
 

@@ -34,7 +34,7 @@ loop-less : tie.Need-loop-less Inv-loop μ-loop
 loop-less c = omega arith
 
 loop-again : tie.Need-loop-again Inv-loop μ-loop
-loop-again c = 
+loop-again c =
     let b = c .before in
     (omega arith, (simp length-set (omega arith), shift-turn (b .before .args .t1) (b .loop .shifted) (b .loop .i) (search needs) (omega arith) (b .loop .inv .1 .1)))
 
