@@ -1,0 +1,37 @@
+// Lines of text on standard output. A write that fails shows as a line that the expected output has
+// and this one lacks.
+use blheli_telemetry::EscTelemetry;
+use libc::STDOUT_FILENO;
+
+pub fn text(words: &[u8]) {
+    io::write_all(STDOUT_FILENO, words);
+}
+
+pub fn decimal(n: u64) {
+    io::print_decimal(STDOUT_FILENO, n);
+}
+
+pub fn byte(b: u8) {
+    io::print_hex(STDOUT_FILENO, b as u64, 2);
+}
+
+pub fn bytes(b: &[u8]) {
+    let mut i: usize = 0;
+    while i < b.len() {
+        byte(b[i]);
+        i += 1;
+    }
+}
+
+// The five fields, in the frame's order.
+pub fn telemetry(t: EscTelemetry) {
+    decimal(t.temperature_c as u64);
+    text(b" ");
+    decimal(t.voltage_cv as u64);
+    text(b" ");
+    decimal(t.current_ca as u64);
+    text(b" ");
+    decimal(t.consumption_mah as u64);
+    text(b" ");
+    decimal(t.erpm_div100 as u64);
+}
