@@ -3,10 +3,11 @@
 // A CRC failure advances by one byte because the protocol has no sync byte. This recovers from
 // dropped and noisy bytes while memory and work stay bounded.
 ghost use mathlib.Core.Path.{_≡_};
-ghost use Rattle.blheli_telemetry.specs.Parser.{saturated, newParser, countedGood, countedBad, shiftedDown, pushOf, resetOf};
+ghost use Rattle.blheli_telemetry.specs.Parser.{newParser, countedGood, countedBad, shiftedDown, pushOf, resetOf};
 use crate::frame::Decoded;
 use crate::frame::EscTelemetry;
 use crate::frame::decode;
+use crate::saturating::saturating_inc;
 
 pub struct ParserStats {
     pub valid_frames: u32,
@@ -147,12 +148,6 @@ fn counted_bad(stats: ParserStats) -> ParserStats
         crc_failures: saturating_inc(stats.crc_failures),
         discarded_bytes: saturating_inc(stats.discarded_bytes),
     }
-}
-
-fn saturating_inc(count: u32) -> u32
-    ensures { λ r. ⌜ r ≡ saturated count ⌝ }
-{
-    if count < 4294967295 { count + 1 } else { count }
 }
 
 // Each byte but the first, one place down: the oldest is dropped.
