@@ -4,18 +4,21 @@ use mathlib.Core.List.{List, [], _∷_, _++_}
 use Prim.Native.Nat.{ℕ, suc, _+_, _<_, _≤_, min}
 use native.Mathlib.Omega.{arith}
 use native.Mathlib.Numerals.{add-one}
-use lib.ListN.{length, set, take, drop, length-set, length-take, length-drop, length-append, drop-of-length-le}
-use lib.Seq.{take-suc-set, set-split, take-all, take-at}
+use lib.ListN.{length, getD, set, take, drop, length-set, length-take, length-drop, length-append, drop-of-length-le}
+use lib.Seq.{take-suc-set, set-split, take-all, take-at, getD-at}
 use borrow.Author.Tests.{lt-ltb, le-ltb}
 use Rattle.blheli_telemetry.specs.Reply.{Reply, accepted, refused}
-use Rattle.blheli_telemetry.specs.Frame.{readFrame}
-use Rattle.blheli_telemetry.specs.Parser.{shiftedDown, collected, completed, pushOf, newParser, resetOf}
-use Rattle.blheli_telemetry.specs.Stream.{held, given, kept, givenAfter, heldAfter, framed, parsedBy}
+use Rattle.blheli_telemetry.specs.Crc.{crcOf}
+use Rattle.blheli_telemetry.specs.Frame.{telemetryOf, readFrame}
+use Rattle.blheli_telemetry.specs.Parser.{countedGood, countedBad, shiftedDown, completed, pushOf, newParser, resetOf}
+use Rattle.blheli_telemetry.specs.Stream.{held, given, kept, counted, givenAfter, heldAfter, countedAfter, framed, parsedBy}
 use Rattle.blheli_telemetry.specs.declared.frame.EscTelemetry.{EscTelemetry}
 use Rattle.blheli_telemetry.specs.declared.parser.ParserStats.{ParserStats}
 use Rattle.blheli_telemetry.specs.declared.parser.Parsed.{Parsed}
+use Rattle.blheli_telemetry.specs.declared.parser.Parsed.the-variants.{Sample, Nothing}
 use Rattle.blheli_telemetry.specs.declared.parser.StreamParser.{StreamParser}
 use Rattle.blheli_telemetry.proofs.ByCases.{below-or-not}
+use Rattle.blheli_telemetry.proofs.FrameLaws.{read-good, read-bad}
 use Rattle.blheli_telemetry.proofs.ParserLaws.{push-few, push-tenth}
 
 -- the array with the tenth byte
@@ -40,6 +43,10 @@ completed-held f s (refused n) l = shifted-front f l
 completed-given : (f : List ℕ) (s : ParserStats) (r : Reply EscTelemetry) → completed f s r .parsed ≡ given r
 completed-given f s (accepted t) = refl
 completed-given f s (refused n) = refl
+
+completed-counted : (f : List ℕ) (s : ParserStats) (r : Reply EscTelemetry) → completed f s r .parser .stats ≡ counted r s
+completed-counted f s (accepted t) = refl
+completed-counted f s (refused n) = refl
 
 completed-ten : (f : List ℕ) (s : ParserStats) (r : Reply EscTelemetry) → length f ≡ 10 → length (completed f s r .parser .bytes) ≡ 10
 unfolding shiftedDown
@@ -83,11 +90,59 @@ module _ (p : StreamParser) (b : ℕ) (ten : length (p .bytes) ≡ 10) where
       rw (push-tenth p b h, le-ltb _ _ (nine-length h), filled h)
       (completed-held (held p ++ b ∷ []) (p .stats) (readFrame (held p ++ b ∷ [])) l))
 
+  pub counted-by-held : pushOf p b .parser .stats ≡ countedAfter (held p) b (p .stats)
+  unfolding countedAfter
+  counted-by-held =
+      below-or-not (p .len) 9
+      (λ h. rw (push-few p b h, lt-ltb _ _ (few-length h)))
+      (λ h.
+      rw (push-tenth p b h, le-ltb _ _ (nine-length h), filled h)
+      (completed-counted (held p ++ b ∷ []) (p .stats) (readFrame (held p ++ b ∷ []))))
+
   pub keeps-ten : length (pushOf p b .parser .bytes) ≡ 10
   keeps-ten =
       below-or-not (p .len) 9
       (λ h. rw (push-few p b h) (simp length-set ten))
       (λ h. rw (push-tenth p b h) (completed-ten (set (p .bytes) 9 b) (p .stats) (readFrame (set (p .bytes) 9 b)) (simp length-set ten)))
+
+-- what a byte brings out, leaves and counts
+pub record Way (xs : List ℕ) (b : ℕ) (g : Parsed) (h : List ℕ) (c : ParserStats → ParserStats) : Type 0 where
+  pub gives : givenAfter xs b ≡ g
+  pub holds : heldAfter xs b ≡ h
+  pub counts : (s : ParserStats) → countedAfter xs b s ≡ c s
+
+-- the three ways: few are held, the tenth is the CRC of the nine, or it is not
+module _ (xs : List ℕ) (b : ℕ) where
+  pub few-held : length xs < 9 → Way xs b Nothing (xs ++ b ∷ []) (λ s. s)
+  unfolding givenAfter heldAfter countedAfter
+  few-held h = rw (lt-ltb _ _ h) (record { gives = refl; holds = refl; counts = λ s. refl })
+
+  module _ (nine-held : length xs ≡ 9) where
+    ten-bytes : length (xs ++ b ∷ []) ≡ 10
+    ten-bytes = simp length-append (omega arith)
+
+    checks : crcOf (take 9 (xs ++ b ∷ [])) ≡ crcOf xs
+    checks = ap crcOf (take-at xs (b ∷ []) 9 nine-held)
+
+    tenth-byte : getD (xs ++ b ∷ []) 9 0 ≡ b
+    tenth-byte = getD-at xs b [] 0 9 nine-held
+
+    full : 9 ≤ length xs
+    full = omega arith
+
+    pub frame-end : crcOf xs ≡ b → Way xs b (Sample (telemetryOf (xs ++ b ∷ []))) [] countedGood
+    unfolding givenAfter heldAfter countedAfter
+    frame-end good =
+        let r : readFrame (xs ++ b ∷ []) ≡ accepted (telemetryOf (xs ++ b ∷ [])) =
+        read-good (xs ++ b ∷ []) ten-bytes (checks ∙ good ∙ sym tenth-byte) in
+        rw (le-ltb _ _ full, r) (record { gives = refl; holds = refl; counts = λ s. refl })
+
+    pub wrong-check : (crcOf xs ≡ b → ⊥) → Way xs b Nothing (drop 1 (xs ++ b ∷ [])) countedBad
+    unfolding givenAfter heldAfter countedAfter
+    wrong-check bad =
+        let r : readFrame (xs ++ b ∷ []) ≡ refused 10 =
+        read-bad (xs ++ b ∷ []) ten-bytes (λ e. bad (sym checks ∙ e ∙ tenth-byte)) in
+        rw (le-ltb _ _ full, r) (record { gives = refl; holds = refl; counts = λ s. refl })
 
 -- over a stream of bytes the parser's own calls give what the bytes held give
 pub parsed-by-held : (p : StreamParser) (bs : List ℕ) → length (p .bytes) ≡ 10 → parsedBy p bs ≡ framed (held p) bs

@@ -6,10 +6,11 @@ use lib.ListN.{length, take, drop}
 use Rattle.blheli_telemetry.specs.Choice.{pick}
 use Rattle.blheli_telemetry.specs.Reply.{Reply, accepted, refused}
 use Rattle.blheli_telemetry.specs.Frame.{readFrame}
-use Rattle.blheli_telemetry.specs.Parser.{pushOf}
+use Rattle.blheli_telemetry.specs.Parser.{countedGood, countedBad, pushOf}
 use Rattle.blheli_telemetry.specs.declared.frame.EscTelemetry.{EscTelemetry}
 use Rattle.blheli_telemetry.specs.declared.parser.Parsed.{Parsed}
 use Rattle.blheli_telemetry.specs.declared.parser.Parsed.the-variants.{Sample, Nothing}
+use Rattle.blheli_telemetry.specs.declared.parser.ParserStats.{ParserStats}
 use Rattle.blheli_telemetry.specs.declared.parser.StreamParser.{StreamParser}
 
 -- the bytes that a parser holds, oldest first
@@ -31,6 +32,14 @@ givenAfter xs b = pick (ltb (length xs) 9) Nothing (given (readFrame (xs ++ b �
 -- what the parser then holds
 unfoldable pub heldAfter : List ℕ → ℕ → List ℕ
 heldAfter xs b = pick (ltb (length xs) 9) (xs ++ b ∷ []) (kept (xs ++ b ∷ []) (readFrame (xs ++ b ∷ [])))
+
+abbrev pub counted : Reply EscTelemetry → ParserStats → ParserStats
+counted (accepted t) s = countedGood s
+counted (refused n) s = countedBad s
+
+-- what becomes of its counts
+unfoldable pub countedAfter : List ℕ → ℕ → ParserStats → ParserStats
+countedAfter xs b s = pick (ltb (length xs) 9) s (counted (readFrame (xs ++ b ∷ [])) s)
 
 -- what a parser that holds xs gives at each byte of a stream
 unfoldable pub framed : List ℕ → List ℕ → List Parsed
