@@ -115,7 +115,7 @@ pub record Way (xs : List ℕ) (b : ℕ) (g : Parsed) (h : List ℕ) (c : Parser
 module _ (xs : List ℕ) (b : ℕ) where
   pub few-held : length xs < 9 → Way xs b Nothing (xs ++ b ∷ []) (λ s. s)
   unfolding givenAfter heldAfter countedAfter
-  few-held h = rw (lt-ltb _ _ h) (record { gives = refl; holds = refl; counts = λ s. refl })
+  few-held h = record { gives = rw (lt-ltb _ _ h); holds = rw (lt-ltb _ _ h); counts = λ s. rw (lt-ltb _ _ h) }
 
   module _ (nine-held : length xs ≡ 9) where
     ten-bytes : length (xs ++ b ∷ []) ≡ 10
@@ -135,14 +135,14 @@ module _ (xs : List ℕ) (b : ℕ) where
     frame-end good =
         let r : readFrame (xs ++ b ∷ []) ≡ accepted (telemetryOf (xs ++ b ∷ [])) =
         read-good (xs ++ b ∷ []) ten-bytes (checks ∙ good ∙ sym tenth-byte) in
-        rw (le-ltb _ _ full, r) (record { gives = refl; holds = refl; counts = λ s. refl })
+        record { gives = rw (le-ltb _ _ full, r); holds = rw (le-ltb _ _ full, r); counts = λ s. rw (le-ltb _ _ full, r) }
 
     pub wrong-check : (crcOf xs ≡ b → ⊥) → Way xs b Nothing (drop 1 (xs ++ b ∷ [])) countedBad
     unfolding givenAfter heldAfter countedAfter
     wrong-check bad =
         let r : readFrame (xs ++ b ∷ []) ≡ refused 10 =
         read-bad (xs ++ b ∷ []) ten-bytes (λ e. bad (sym checks ∙ e ∙ tenth-byte)) in
-        rw (le-ltb _ _ full, r) (record { gives = refl; holds = refl; counts = λ s. refl })
+        record { gives = rw (le-ltb _ _ full, r); holds = rw (le-ltb _ _ full, r); counts = λ s. rw (le-ltb _ _ full, r) }
 
 -- over a stream of bytes the parser's own calls give what the bytes held give
 pub parsed-by-held : (p : StreamParser) (bs : List ℕ) → length (p .bytes) ≡ 10 → parsedBy p bs ≡ framed (held p) bs
