@@ -1,0 +1,70 @@
+-- 03, one law for each case: nothing queued, another request's, and the queued one's without and with a held frame.
+use mathlib.Core.Path.{_≡_, refl, ap}
+use mathlib.Core.Bool.{true, false}
+use mathlib.Core.List.{[], _∷_}
+use mathlib.Core.Logic.{⊎-elim}
+use Prim.Native.Nat.{ℕ}
+use borrow.Author.Tests.{eqb-false}
+use denote.Enum.Declared.{tagOf}
+use types.Run.{OneOf}
+use Rattle.blheli_telemetry.specs.Choice.{pick}
+use Rattle.esc_feedback.specs.Request.{sameRequest, updateOf}
+use Rattle.esc_feedback.specs.Stats.{requestsStarted}
+use Rattle.esc_feedback.specs.Line.{startedLine}
+use Rattle.esc_feedback.specs.Manager.{setLine, count, heardBy, delivered}
+use Rattle.esc_feedback.specs.Ack.{mismatched, started, ackOn, onAck}
+use Rattle.esc_feedback.specs.declared.request.EscActuatorRequest.{EscActuatorRequest}
+use Rattle.esc_feedback.specs.declared.request.EscActuatorAck.{EscActuatorAck}
+use Rattle.esc_feedback.specs.declared.request.EscTelemetryObservation.{EscTelemetryObservation}
+use Rattle.esc_feedback.specs.declared.answer.EscAckOutcome.the-variants as outcome
+use Rattle.esc_feedback.specs.declared.line.EarlyObservation.{EarlyObservation}
+use Rattle.esc_feedback.specs.declared.line.EarlyObservation.the-variants as early
+use Rattle.esc_feedback.specs.declared.line.PendingRequest.{PendingRequest}
+use Rattle.esc_feedback.specs.declared.line.PendingRequest.the-variants as pending
+use Rattle.esc_feedback.specs.declared.manager.EscManager.{EscManager}
+use Rattle.esc_feedback.proofs.line.PendingRequest.{the-type}
+
+ack-else-on : (m : EscManager) (a : EscActuatorAck) (p : PendingRequest) → OneOf (0 ∷ 2 ∷ []) (tagOf the-type p) → ackOn m a p ≡ mismatched m
+unfolding ackOn
+ack-else-on m a pending.None h = refl
+ack-else-on m a (pending.Started q t) h = refl
+ack-else-on m a (pending.Queued q t e) h = ⊎-elim (λ w. absurd (eqb-false 1 0 refl w)) (λ w. absurd (eqb-false 1 2 refl w)) h
+
+module _ (m : EscManager) (a : EscActuatorAck) where
+  -- the manager once it has heard of the acknowledgement
+  abbrev pub heard : EscManager
+  heard = heardBy m (a .«started_at_ms»)
+
+  -- nothing queued: a variant other than `Queued`
+  pub ack-else : OneOf (0 ∷ 2 ∷ []) (tagOf the-type (m .line .pending)) → onAck m a ≡ mismatched heard
+  unfolding onAck
+  ack-else h = ack-else-on heard a (m .line .pending) h
+
+  pub ack-closed : m .line .pending ≡ pending.None → onAck m a ≡ mismatched heard
+  unfolding onAck ackOn
+  ack-closed e = ap (ackOn heard a) e
+
+  module _ (q : EscActuatorRequest) (t : ℕ) where
+    pub ack-again : m .line .pending ≡ pending.Started q t → onAck m a ≡ mismatched heard
+    unfolding onAck ackOn
+    ack-again e = ap (ackOn heard a) e
+
+    module _ (held : EarlyObservation) (e : m .line .pending ≡ pending.Queued q t held) where
+      ack-queued : onAck m a ≡ pick (sameRequest (a .request) q) (started heard q (a .«started_at_ms») held) (mismatched heard)
+      unfolding onAck ackOn
+      ack-queued = ap (ackOn heard a) e
+
+      pub ack-other : sameRequest (a .request) q ≡ false → onAck m a ≡ mismatched heard
+      ack-other s = rw s at ack-queued
+
+      pub ack-same : sameRequest (a .request) q ≡ true → onAck m a ≡ started heard q (a .«started_at_ms») held
+      ack-same s = rw s at ack-queued
+
+    -- the two cases of `started`
+    pub ack-accepted : m .line .pending ≡ pending.Queued q t early.None → sameRequest (a .request) q ≡ true
+        → onAck m a ≡ record { manager = setLine (startedLine q (a .«started_at_ms»)) (count requestsStarted heard); answer = outcome.Accepted }
+    ack-accepted e s = ack-same early.None e s
+
+    pub ack-sample : (o : EscTelemetryObservation) → m .line .pending ≡ pending.Queued q t (early.Some o) → sameRequest (a .request) q ≡ true
+        → onAck m a ≡ record { manager = delivered (count requestsStarted heard); answer = outcome.Sample (updateOf q o) }
+    ack-sample o e s = ack-same (early.Some o) e s

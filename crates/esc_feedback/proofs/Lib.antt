@@ -1,0 +1,16 @@
+pub mod OutputLaws
+pub mod IdleConfigLaws
+pub mod IdleLaneLaws
+pub mod IdlePass
+pub mod IdleLoops
+pub mod IdleLaws
+pub mod IdleCases
+pub mod RequestLaws
+pub mod FaultLaws
+pub mod DeliveryLaws
+pub mod QueueingLaws
+pub mod AckLaws
+pub mod TimeoutLaws
+pub mod WireLaws
+pub mod RecoveryLaws
+pub mod Cases

@@ -1,0 +1,66 @@
+-- 01 and 02, one law for each case.
+use mathlib.Core.Path.{_≡_, refl, ap, sym, _∙_}
+use mathlib.Core.Bool.{Bool, true, false, and-false, true≢false}
+use Prim.Native.Nat.{ℕ}
+use Rattle.blheli_telemetry.specs.Choice.{pick}
+use Rattle.esc_feedback.specs.Due.{due}
+use Rattle.esc_feedback.specs.Turn.{turnRequest, periodDue}
+use Rattle.esc_feedback.specs.Line.{isOpen}
+use Rattle.esc_feedback.specs.Queueing.{requestExists, nextRequest, names, granted, yes, no, markQueued}
+use Rattle.esc_feedback.specs.declared.request.EscActuatorRequest.{EscActuatorRequest}
+use Rattle.esc_feedback.specs.declared.answer.NextRequest.{NextRequest}
+use Rattle.esc_feedback.specs.declared.answer.NextRequest.the-variants as next
+use Rattle.esc_feedback.specs.declared.manager.EscManager.{EscManager}
+use Rattle.esc_feedback.specs.declared.manager.queueing.Marked.{Marked}
+use Rattle.esc_feedback.proofs.RequestLaws.{same-equal, same-itself}
+
+module _ (m : EscManager) (now : ℕ) where
+  pub none-faulted : m .fault .faulted ≡ true → nextRequest m now ≡ next.None
+  unfolding nextRequest requestExists
+  none-faulted e = rw e
+
+  pub none-open : isOpen (m .line .pending) ≡ true → nextRequest m now ≡ next.None
+  unfolding nextRequest requestExists
+  none-open e = simp (e, and-false)
+
+  pub none-booting : due (m .«boot_started_ms») now (m .config .«boot_delay_ms») ≡ false → nextRequest m now ≡ next.None
+  unfolding nextRequest requestExists
+  none-booting e = simp (e, and-false)
+
+  pub none-early : periodDue (m .turn .last) now (m .config .«request_period_ms») ≡ false → nextRequest m now ≡ next.None
+  unfolding nextRequest requestExists
+  none-early e = simp (e, and-false)
+
+  pub some-wanted : m .fault .faulted ≡ false → isOpen (m .line .pending) ≡ false
+      → due (m .«boot_started_ms») now (m .config .«boot_delay_ms») ≡ true
+      → periodDue (m .turn .last) now (m .config .«request_period_ms») ≡ true
+      → nextRequest m now ≡ next.Some (turnRequest (m .turn))
+  unfolding nextRequest requestExists
+  some-wanted f o b p = rw (f, o, b, p)
+
+  pub marked-yes : (q : EscActuatorRequest) → names q (nextRequest m now) ≡ true
+      → markQueued m q now ≡ yes (granted m q now)
+  unfolding markQueued
+  marked-yes q e = rw e
+
+  pub marked-no : (q : EscActuatorRequest) → names q (nextRequest m now) ≡ false
+      → markQueued m q now ≡ no m
+  unfolding markQueued
+  marked-no q e = rw e
+
+  -- 02 says yes exactly when it names the request that exists
+  module _ (q : EscActuatorRequest) where
+    pub marked-if : nextRequest m now ≡ next.Some q → markQueued m q now ≡ yes (granted m q now)
+    marked-if e = marked-yes q (ap (names q) e ∙ same-itself q)
+
+    pub marked-only-if : markQueued m q now .answer ≡ true → nextRequest m now ≡ next.Some q
+    unfolding markQueued
+    marked-only-if e = go (nextRequest m now) (named (names q (nextRequest m now)) e)
+      where
+        named : (b : Bool) → pick {A = Marked} b (yes (granted m q now)) (no m) .answer ≡ true → b ≡ true
+        named true e = refl
+        named false e = e
+
+        go : (n : NextRequest) → names q n ≡ true → n ≡ next.Some q
+        go next.None e = absurd (true≢false (sym e))
+        go (next.Some wanted) e = ap next.Some (sym (same-equal q wanted e))

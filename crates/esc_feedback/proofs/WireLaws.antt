@@ -1,0 +1,62 @@
+-- 05, one law for each case: no sample, one with nothing open, one to be held, and one that is delivered.
+use mathlib.Core.Path.{_≡_, ap, _∙_}
+use Prim.Native.Nat.{ℕ}
+use Rattle.blheli_telemetry.specs.Parser.{pushOf}
+use Rattle.blheli_telemetry.specs.declared.frame.EscTelemetry.{EscTelemetry}
+use Rattle.blheli_telemetry.specs.declared.parser.Parsed.the-variants.{Sample, Nothing}
+use Rattle.esc_feedback.specs.Request.{observationOf, updateOf}
+use Rattle.esc_feedback.specs.Stats.{unsolicitedFrames}
+use Rattle.esc_feedback.specs.Line.{queuedLine}
+use Rattle.esc_feedback.specs.Manager.{setLine, setParser, count, heardBy, delivered}
+use Rattle.esc_feedback.specs.Wire.{refreshed, framedOn, framed, receivedOn, pushWire}
+use Rattle.esc_feedback.specs.declared.request.EscActuatorRequest.{EscActuatorRequest}
+use Rattle.esc_feedback.specs.declared.answer.WireUpdate.the-variants as update
+use Rattle.esc_feedback.specs.declared.line.EarlyObservation.{EarlyObservation}
+use Rattle.esc_feedback.specs.declared.line.EarlyObservation.the-variants as early
+use Rattle.esc_feedback.specs.declared.line.PendingRequest.the-variants as pending
+use Rattle.esc_feedback.specs.declared.manager.EscManager.{EscManager}
+
+module _ (m : EscManager) (sample : EscTelemetry) (at : ℕ) where
+  pub framed-unsolicited : m .line .pending ≡ pending.None
+      → framed m sample at ≡ record { manager = count unsolicitedFrames m; answer = update.None }
+  unfolding framedOn
+  framed-unsolicited e = ap (framedOn m sample at) e
+
+  module _ (q : EscActuatorRequest) (t : ℕ) where
+    pub framed-held : (held : EarlyObservation) → m .line .pending ≡ pending.Queued q t held
+        → framed m sample at ≡ record { manager = setLine (queuedLine q t (early.Some (observationOf q sample at))) m; answer = update.None }
+    unfolding framedOn
+    framed-held held e = ap (framedOn m sample at) e
+
+    pub framed-delivered : m .line .pending ≡ pending.Started q t
+        → framed m sample at ≡ record { manager = delivered m; answer = update.Some (updateOf q (observationOf q sample at)) }
+    unfolding framedOn
+    framed-delivered e = ap (framedOn m sample at) e
+
+module _ (m : EscManager) (byte at : ℕ) where
+  -- the manager once the parser has the byte
+  abbrev pub taken : EscManager
+  taken = setParser (pushOf (m .parser) byte .parser) (heardBy m at)
+
+  pub pushed-nothing : pushOf (m .parser) byte .parsed ≡ Nothing → pushWire m byte at ≡ record { manager = taken; answer = update.None }
+  unfolding pushWire receivedOn
+  pushed-nothing e = ap (receivedOn taken at) e
+
+  pub pushed-sample : (sample : EscTelemetry) → pushOf (m .parser) byte .parsed ≡ Sample sample → pushWire m byte at ≡ framed (refreshed taken) sample at
+  unfolding pushWire receivedOn
+  pushed-sample sample e = ap (receivedOn taken at) e
+
+  -- what a sample comes to, by the state of the line
+  module _ (sample : EscTelemetry) (g : pushOf (m .parser) byte .parsed ≡ Sample sample) where
+    pub pushed-unsolicited : m .line .pending ≡ pending.None
+        → pushWire m byte at ≡ record { manager = count unsolicitedFrames (refreshed taken); answer = update.None }
+    pushed-unsolicited e = pushed-sample sample g ∙ framed-unsolicited (refreshed taken) sample at e
+
+    module _ (q : EscActuatorRequest) (t : ℕ) where
+      pub pushed-held : (held : EarlyObservation) → m .line .pending ≡ pending.Queued q t held
+          → pushWire m byte at ≡ record { manager = setLine (queuedLine q t (early.Some (observationOf q sample at))) (refreshed taken); answer = update.None }
+      pushed-held held e = pushed-sample sample g ∙ framed-held (refreshed taken) sample at q t held e
+
+      pub pushed-delivered : m .line .pending ≡ pending.Started q t
+          → pushWire m byte at ≡ record { manager = delivered (refreshed taken); answer = update.Some (updateOf q (observationOf q sample at)) }
+      pushed-delivered e = pushed-sample sample g ∙ framed-delivered (refreshed taken) sample at q t e

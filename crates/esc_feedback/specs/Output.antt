@@ -1,0 +1,28 @@
+-- The output lanes 0 to 3, and their turn: the fixed order of `EscOutput::ALL`.
+use Prim.Native.Nat.{ℕ}
+use mathlib.Core.Bool.{Bool}
+use lib.Dec.{eqb}
+use Rattle.esc_feedback.specs.declared.output.Lane.{Lane}
+use Rattle.esc_feedback.specs.declared.output.Lane.the-variants.{Output1, Output2, Output3, Output4}
+use Rattle.esc_feedback.specs.declared.output.EscOutput.{EscOutput}
+
+abbrev pub laneNumber : Lane → ℕ
+laneNumber Output1 = 0
+laneNumber Output2 = 1
+laneNumber Output3 = 2
+laneNumber Output4 = 3
+
+abbrev pub laneAfter : Lane → Lane
+laneAfter Output1 = Output2
+laneAfter Output2 = Output3
+laneAfter Output3 = Output4
+laneAfter Output4 = Output1
+
+abbrev pub laneOf : EscOutput → ℕ
+laneOf o = laneNumber (o .0)
+
+abbrev pub nextOutput : EscOutput → EscOutput
+nextOutput o = record { 0 = laneAfter (o .0) }
+
+abbrev pub sameOutput : EscOutput → EscOutput → Bool
+sameOutput a b = eqb (laneOf a) (laneOf b)

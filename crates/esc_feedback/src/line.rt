@@ -1,0 +1,75 @@
+// The open request: at most one, since a frame does not say which output sent it.
+ghost use mathlib.Core.Path.{_≡_};
+ghost use Rattle.esc_feedback.specs.Line.{closedLine, queuedLine, startedLine, isOpen};
+use crate::request::EscActuatorRequest;
+use crate::request::EscTelemetryObservation;
+
+// A frame that came before the acknowledgement.
+//
+// The actuator runs at a higher priority and can acknowledge after the manager has read its queue. The
+// frame is held until that very acknowledgement is read.
+pub enum EarlyObservation {
+    None,
+    Some(EscTelemetryObservation),
+}
+
+pub enum PendingRequest {
+    None,
+    Queued {
+        request: EscActuatorRequest,
+        queued_at_ms: u64,
+        early: EarlyObservation,
+    },
+    Started {
+        request: EscActuatorRequest,
+        started_at_ms: u64,
+    },
+}
+
+pub struct Line {
+    pub pending: PendingRequest,
+}
+
+impl Line {
+    pub fn closed() -> Self
+        ensures { λ r. ⌜ r ≡ closedLine ⌝ }
+    {
+        Self {
+            pending: PendingRequest::None,
+        }
+    }
+
+    pub fn queued(request: EscActuatorRequest, queued_at_ms: u64, early: EarlyObservation) -> Self
+        ensures { λ r. ⌜ r ≡ queuedLine request «queued_at_ms» early ⌝ }
+    {
+        Self {
+            pending: PendingRequest::Queued {
+                request,
+                queued_at_ms,
+                early,
+            },
+        }
+    }
+
+    pub fn started(request: EscActuatorRequest, started_at_ms: u64) -> Self
+        ensures { λ r. ⌜ r ≡ startedLine request «started_at_ms» ⌝ }
+    {
+        Self {
+            pending: PendingRequest::Started {
+                request,
+                started_at_ms,
+            },
+        }
+    }
+
+    pub fn is_open(self) -> bool
+        ensures { λ r. ⌜ r ≡ isOpen (self .pending) ⌝ }
+    {
+        let pending = self.pending;
+        match pending {
+            PendingRequest::None => false,
+            PendingRequest::Queued { .. } => true,
+            PendingRequest::Started { .. } => true,
+        }
+    }
+}

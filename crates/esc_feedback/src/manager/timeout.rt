@@ -1,0 +1,82 @@
+// Timeouts: the open request is given up.
+ghost use mathlib.Core.Path.{_≡_};
+ghost use Rattle.esc_feedback.specs.Timeout.{pollTimeout, timedOut};
+use crate::answer::EscManagerTimeout;
+use crate::line::Line;
+use crate::line::PendingRequest;
+use crate::manager::EscManager;
+use crate::stats::one_more;
+use crate::time::elapsed_at_least;
+
+pub struct Polled {
+    pub manager: EscManager,
+    pub answer: EscManagerTimeout,
+}
+
+impl EscManager {
+    pub fn poll_timeout(self, now_ms: u64) -> Polled
+        ensures { λ r. ⌜ r ≡ pollTimeout self «now_ms» ⌝ }
+    {
+        let line = self.line;
+        let pending = line.pending;
+        match pending {
+            PendingRequest::None => Polled {
+                manager: self,
+                answer: EscManagerTimeout::None,
+            },
+            PendingRequest::Queued {
+                request,
+                queued_at_ms,
+                early: _,
+            } => {
+                if !elapsed_at_least(queued_at_ms, now_ms, self.config.actuator_ack_timeout_ms) {
+                    return Polled {
+                        manager: self,
+                        answer: EscManagerTimeout::None,
+                    };
+                }
+                let mut m = self.timed_out(now_ms);
+                let actuator_ack_timeouts = one_more(m.stats.actuator_ack_timeouts);
+                m.stats.actuator_ack_timeouts = actuator_ack_timeouts;
+                Polled {
+                    manager: m,
+                    answer: EscManagerTimeout::ActuatorAck(request),
+                }
+            }
+            PendingRequest::Started {
+                request,
+                started_at_ms,
+            } => {
+                if !elapsed_at_least(
+                    started_at_ms,
+                    now_ms,
+                    self.config.telemetry_response_timeout_ms,
+                ) {
+                    return Polled {
+                        manager: self,
+                        answer: EscManagerTimeout::None,
+                    };
+                }
+                let mut m = self.timed_out(now_ms);
+                let telemetry_response_timeouts = one_more(m.stats.telemetry_response_timeouts);
+                m.stats.telemetry_response_timeouts = telemetry_response_timeouts;
+                Polled {
+                    manager: m,
+                    answer: EscManagerTimeout::TelemetryResponse(request),
+                }
+            }
+        }
+    }
+
+    fn timed_out(self, now_ms: u64) -> EscManager
+        ensures { λ r. ⌜ r ≡ timedOut self «now_ms» ⌝ }
+    {
+        let mut m = self;
+        let line = Line::closed();
+        m.line = line;
+        let fault = m.fault;
+        let faulted = fault.timed_out(now_ms);
+        m.fault = faulted;
+        m
+    }
+}

@@ -1,0 +1,65 @@
+// Whose turn it is: the next request's output and sequence, and when the last one was queued.
+ghost use mathlib.Core.Path.{_≡_};
+ghost use Rattle.esc_feedback.specs.Turn.{firstTurn, turnRequest, periodDue, turnAfter};
+use crate::output::EscOutput;
+use crate::output::Lane;
+use crate::request::EscActuatorRequest;
+use crate::stats::one_more;
+use crate::time::elapsed_at_least;
+
+pub enum LastRequest {
+    None,
+    At(u64),
+}
+
+pub struct Turn {
+    pub output: EscOutput,
+    pub sequence: u32,
+    pub last: LastRequest,
+}
+
+impl Turn {
+    pub fn new() -> Self
+        ensures { λ r. ⌜ r ≡ firstTurn ⌝ }
+    {
+        let output = EscOutput(Lane::Output1);
+        Self {
+            output,
+            sequence: 0,
+            last: LastRequest::None,
+        }
+    }
+
+    pub fn request(self) -> EscActuatorRequest
+        ensures { λ r. ⌜ r ≡ turnRequest self ⌝ }
+    {
+        let output = self.output;
+        EscActuatorRequest {
+            sequence: self.sequence,
+            output,
+        }
+    }
+
+    // Whether the period since the last queueing has gone by, if there was one.
+    pub fn period_due(self, now_ms: u64, period_ms: u32) -> bool
+        ensures { λ r. ⌜ r ≡ periodDue (self .last) «now_ms» «period_ms» ⌝ }
+    {
+        let last = self.last;
+        match last {
+            LastRequest::None => true,
+            LastRequest::At(last_ms) => elapsed_at_least(last_ms, now_ms, period_ms),
+        }
+    }
+
+    // The turn after this one's request was queued.
+    pub fn after(self, now_ms: u64) -> Turn
+        ensures { λ r. ⌜ r ≡ turnAfter self «now_ms» ⌝ }
+    {
+        let output = self.output;
+        Turn {
+            output: output.next(),
+            sequence: one_more(self.sequence),
+            last: LastRequest::At(now_ms),
+        }
+    }
+}
