@@ -4,6 +4,13 @@ use mathlib.Core.Bool.{true, false}
 use Prim.Native.Nat.{_-_, _^_}
 use Rattle.esc_feedback.specs.Due.{due}
 
-pub due-cases : (due 0 20 20 ≡ true) × (due 0 19 20 ≡ false) × (due 5 4 1 ≡ true) × (due (2 ^ 64 - 1) 5 10 ≡ false)
+pub record DueCases : Type 0 where
+  -- Due(0,20,20) yes, Due(0,19,20) no, Due(5,4,1) yes, Due(2^64−1,5,10) no
+  pub at : due 0 20 20 ≡ true
+  pub before : due 0 19 20 ≡ false
+  pub back : due 5 4 1 ≡ true
+  pub wrapped : due (2 ^ 64 - 1) 5 10 ≡ false
+
+pub due-cases : DueCases
 unfolding due
-due-cases = (refl, refl, refl, refl)
+due-cases = record { at = refl; before = refl; back = refl; wrapped = refl }

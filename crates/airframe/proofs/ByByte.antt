@@ -1,0 +1,34 @@
+-- A lane's or a motor's number, converted, gives what the lane or the motor gives: each number reads as its own.
+use mathlib.Core.Path.{_≡_, refl, ap}
+use Rattle.blheli_telemetry.specs.Reply.{accepted}
+use Rattle.esc_feedback.specs.Output.{laneNumber, laneOf}
+use Rattle.esc_feedback.specs.declared.output.Lane.{Lane}
+use Rattle.esc_feedback.specs.declared.output.Lane.the-variants.{Output1, Output2, Output3, Output4}
+use Rattle.esc_feedback.specs.declared.output.EscOutput.{EscOutput}
+use Rattle.airframe.specs.Motor.{digit, numberOf, motorOf, readMotor}
+use Rattle.airframe.specs.Lane.{readLane}
+use Rattle.airframe.specs.BoardMap.{motorOn, outputWith, converted, motorOnByte, outputWithByte}
+use Rattle.airframe.specs.declared.motor.MotorNumber.{MotorNumber}
+use Rattle.airframe.specs.declared.motor.MotorNumber.the-variants.{One, Two, Three, Four}
+use Rattle.airframe.specs.declared.motor.Motor.{Motor}
+use Rattle.airframe.specs.declared.board_map.BoardMap.{BoardMap}
+
+read-lane : (l : Lane) → readLane (laneNumber l) ≡ accepted (record { 0 = l })
+unfolding readLane
+read-lane Output1 = refl
+read-lane Output2 = refl
+read-lane Output3 = refl
+read-lane Output4 = refl
+
+read-digit : (d : MotorNumber) → readMotor (digit d) ≡ accepted (record { 0 = d })
+unfolding motorOf readMotor
+read-digit One = refl
+read-digit Two = refl
+read-digit Three = refl
+read-digit Four = refl
+
+pub motor-by-byte : (m : BoardMap) (o : EscOutput) → motorOnByte m (laneOf o) ≡ accepted (motorOn m o)
+motor-by-byte m o = ap (converted (motorOn m)) (read-lane (o .0))
+
+pub output-by-byte : (m : BoardMap) (k : Motor) → outputWithByte m (numberOf k) ≡ accepted (outputWith m k)
+output-by-byte m k = ap (converted (outputWith m)) (read-digit (k .0))

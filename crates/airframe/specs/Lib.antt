@@ -1,0 +1,5 @@
+pub mod Motor
+pub mod Lane
+pub mod Once
+pub mod BoardMap
+pub mod Speed

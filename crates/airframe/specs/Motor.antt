@@ -1,0 +1,38 @@
+-- The motors 1 to 4, and reading one from a byte.
+use Prim.Native.Nat.{ℕ}
+use mathlib.Core.Bool.{Bool}
+use lib.Dec.{eqb, leb}
+use Rattle.blheli_telemetry.specs.Choice.{pick}
+use Rattle.blheli_telemetry.specs.Reply.{Reply, accepted, refused}
+use Rattle.airframe.specs.declared.motor.MotorNumber.{MotorNumber}
+use Rattle.airframe.specs.declared.motor.MotorNumber.the-variants.{One, Two, Three, Four}
+use Rattle.airframe.specs.declared.motor.Motor.{Motor}
+use Rattle.airframe.specs.declared.motor.MotorRead.{MotorRead}
+use Rattle.airframe.specs.declared.motor.MotorRead.the-variants as read
+
+abbrev pub digit : MotorNumber → ℕ
+digit One = 1
+digit Two = 2
+digit Three = 3
+digit Four = 4
+
+abbrev pub numberOf : Motor → ℕ
+numberOf m = digit (m .0)
+
+abbrev pub sameMotor : Motor → Motor → Bool
+sameMotor a b = eqb (numberOf a) (numberOf b)
+
+-- the motor of a number 1 to 4
+unfoldable pub motorOf : ℕ → Motor
+motorOf n =
+    pick (eqb n 1) (record { 0 = One })
+    (pick (eqb n 2) (record { 0 = Two }) (pick (eqb n 3) (record { 0 = Three }) (record { 0 = Four })))
+
+-- reading: 6 where the byte is not 1 to 4
+unfoldable pub readMotor : ℕ → Reply Motor
+readMotor n = pick (leb 1 n) (pick (leb n 4) (accepted (motorOf n)) (refused 6)) (refused 6)
+
+-- document 01's number and values for each answer
+abbrev pub motorRead : MotorRead → Reply Motor
+motorRead (read.Motor m) = accepted m
+motorRead read.OutOfRange = refused 6

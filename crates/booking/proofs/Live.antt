@@ -1,0 +1,107 @@
+-- A list on which the claims say something: four deliveries, a held frame that is replaced, both timeouts, noise while faulted, two recoveries.
+use mathlib.Core.Path.{_≡_, refl}
+use mathlib.Core.List.{List, [], _∷_, _++_, map, reverse}
+use mathlib.Core.Bool.{true}
+use mathlib.Core.Option.{Option, none, some}
+use Prim.Native.Nat.{ℕ, _+_}
+use lib.ListN.{replicate}
+use Rattle.blheli_telemetry.specs.Reply.{Reply, accepted, refused}
+use Rattle.blheli_telemetry.specs.BigEndian.{numberAt, bytesOf}
+use Rattle.blheli_telemetry.specs.Crc.{crcBit, crcBits, crcByte, crcFrom, crcOf}
+use Rattle.blheli_telemetry.specs.Frame.{telemetryOf, payloadOf}
+use Rattle.esc_feedback.specs.Due.{due}
+use Rattle.esc_feedback.specs.Output.{laneOf}
+use Rattle.esc_feedback.specs.declared.request.EscTelemetryUpdate.{EscTelemetryUpdate}
+use Rattle.esc_unit.specs.Record.{recordOf, readRecord}
+use Rattle.esc_unit.specs.Answer.{requestBytes, sampleBytes, deliveredBytes, failureBytes, idleBytes, nextBytes, ackBytes, wireBytes, timeoutBytes, bodyBytes, answerBytes}
+use Rattle.esc_unit.specs.declared.answer.Answer.{Answer}
+use Rattle.booking.specs.Maybe.{is}
+use Rattle.booking.specs.History.{Past, Call, Event, History, saidBy, updateIn, since}
+use Rattle.booking.specs.Wire.{wire, latest, frameAt}
+use Rattle.booking.specs.Booking.{openRequest, startedAt, latestFrame, newlyStarted, startedRequest}
+use Rattle.booking.specs.Faults.{faulted, quietSince, retries, expired, recovers, note}
+use Rattle.booking.specs.Turns.{turn, lastQueued, existing}
+use Rattle.booking.specs.IdleRule.{check, verdict, run, judged}
+use Rattle.booking.specs.Counts.{one, count, queued, delivered, ackTimeout, responseTimeout}
+use Rattle.booking.specs.Rule.{ruleFor, traceOf}
+use Rattle.booking.specs.Claims.{pastOf}
+use Rattle.booking.proofs.Session.{roomy}
+
+-- records
+abbrev open′ : List ℕ
+open′ = 0x00 ∷ (bytesOf 4 0 ++ (bytesOf 4 0 ++ (bytesOf 4 20 ++ (bytesOf 4 100 ++ (bytesOf 4 500 ++ bytesOf 8 0)))))
+
+abbrev queue : ℕ → ℕ → ℕ → List ℕ
+queue s l t = 0x02 ∷ (bytesOf 4 s ++ l ∷ bytesOf 8 t)
+
+abbrev acknowledge : ℕ → ℕ → ℕ → ℕ → List ℕ
+acknowledge s l started t = 0x03 ∷ (bytesOf 4 s ++ l ∷ (bytesOf 8 started ++ bytesOf 8 t))
+
+abbrev poll : ℕ → List ℕ
+poll t = 0x04 ∷ bytesOf 8 t
+
+abbrev byte : ℕ → ℕ → List ℕ
+byte t b = 0x05 ∷ b ∷ bytesOf 8 t
+
+abbrev recover : ℕ → List ℕ
+recover t = 0x07 ∷ 0x00 ∷ bytesOf 8 t
+
+-- a frame of nothing but speed
+abbrev frame : ℕ → ℕ → List (List ℕ)
+frame t erpm = map (byte t) (replicate 8 0x00 ++ erpm ∷ crcOf (replicate 8 0x00 ++ erpm ∷ []) ∷ [])
+
+abbrev flight : List (List ℕ)
+flight =
+    -- frame after the acknowledgement
+    open′ ∷ queue 0 0 1 ∷ acknowledge 0 0 1 1 ∷ frame 2 60
+    -- two frames before it: the later is delivered, with its own time
+    ++ (queue 1 1 3 ∷ frame 4 61 ++ (frame 5 62 ++ (acknowledge 1 1 6 6 ∷ []
+    -- no acknowledgement; noise while faulted moves the quiet start to 30
+    ++ (queue 2 2 7 ∷ poll 27 ∷ byte 30 0xaa ∷ recover 529 ∷ recover 530
+    -- no frame
+    ∷ queue 3 3 600 ∷ acknowledge 3 3 600 600 ∷ poll 699 ∷ poll 700 ∷ recover 1699 ∷ recover 1700
+    ∷ queue 4 0 1800 ∷ acknowledge 4 0 1800 1800 ∷ frame 1801 63
+    ++ (queue 5 1 1900 ∷ acknowledge 5 1 1900 1900 ∷ frame 1901 64 ++ (queue 6 2 2000 ∷ []))))))
+
+-- what was delivered: lane, sequence, time, eRPM / 100
+pub record Reading : Type 0 where
+  pub lane : ℕ
+  pub sequence : ℕ
+  pub at : ℕ
+  pub erpm : ℕ
+
+abbrev reading : EscTelemetryUpdate → Reading
+reading u =
+    record {
+      lane = laneOf (u .output);
+      sequence = u .observation .«request_sequence»;
+      at = u .observation .«observed_at_ms»;
+      erpm = u .observation .sample .«erpm_div100»;
+    }
+
+abbrev readingsIn : Option EscTelemetryUpdate → List Reading
+readingsIn none = []
+readingsIn (some u) = reading u ∷ []
+
+abbrev readingsOf : Reply Answer → List Reading
+readingsOf (refused n) = []
+readingsOf (accepted a) = readingsIn (updateIn (saidBy a .delivered))
+
+abbrev readings : History → List Reading
+readings [] = []
+readings (e ∷ h) = readings h ++ readingsOf (e .reply)
+
+abbrev booked′ : ℕ → ℕ → ℕ → ℕ → Reading
+booked′ l s t e = record { lane = l; sequence = s; at = t; erpm = e }
+
+pub deliveries : readings (traceOf [] (map roomy flight)) ≡ booked′ 0 0 2 60 ∷ booked′ 1 1 5 62 ∷ booked′ 0 4 1801 63 ∷ booked′ 1 5 1901 64 ∷ []
+unfolding numberAt bytesOf crcBit crcBits crcByte crcFrom crcOf telemetryOf payloadOf due recordOf readRecord requestBytes sampleBytes deliveredBytes failureBytes idleBytes nextBytes ackBytes wireBytes timeoutBytes bodyBytes answerBytes since wire latest frameAt openRequest startedAt latestFrame newlyStarted startedRequest faulted quietSince retries expired recovers note turn lastQueued existing check verdict run judged ruleFor traceOf
+deliveries = refl
+
+abbrev past : Past
+past = pastOf (since (traceOf [] (map roomy flight)))
+
+-- seven queued: four delivered, a timeout of each kind, and one open
+pub balance : (count queued past ≡ 7) × (count delivered past ≡ 4) × (count ackTimeout past ≡ 1) × (count responseTimeout past ≡ 1) × (is (openRequest past) ≡ true)
+unfolding numberAt bytesOf crcBit crcBits crcByte crcFrom crcOf telemetryOf payloadOf due recordOf readRecord requestBytes sampleBytes deliveredBytes failureBytes idleBytes nextBytes ackBytes wireBytes timeoutBytes bodyBytes answerBytes since wire latest frameAt openRequest startedAt latestFrame newlyStarted startedRequest faulted quietSince retries expired recovers note turn lastQueued existing check verdict run judged ruleFor traceOf count
+balance = (refl, refl, refl, refl, refl)

@@ -1,0 +1,13 @@
+pub mod Maybe
+pub mod History
+pub mod Wire
+pub mod Booking
+pub mod Faults
+pub mod Turns
+pub mod IdleRule
+pub mod Samples
+pub mod Counts
+pub mod Rule
+pub mod Run
+pub mod Claims
+pub mod Qualified

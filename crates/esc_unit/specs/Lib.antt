@@ -1,0 +1,9 @@
+pub mod Record
+pub mod Whole
+pub mod Answer
+pub mod Put
+pub mod Write
+pub mod Figures
+pub mod Books
+pub mod Unit
+pub mod Replies

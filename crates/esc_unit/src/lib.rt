@@ -1,0 +1,32 @@
+// The ESC telemetry unit: records in, answers out.
+mod answer;
+mod answer_len;
+mod books;
+mod fields;
+mod figures;
+mod put;
+mod put_parts;
+mod reader;
+mod record;
+mod unit;
+mod write;
+
+pub use answer::AckAnswer;
+pub use answer::Answer;
+pub use answer::Delivered;
+pub use answer::IdleAnswer;
+pub use answer::StoredAnswer;
+pub use answer::UnitReport;
+pub use answer::WireAnswer;
+pub use figures::Figure;
+pub use figures::Figures;
+pub use record::Record;
+pub use record::RecordRead;
+pub use record::read_record;
+pub use unit::CallReply;
+pub use unit::Called;
+pub use unit::StepReply;
+pub use unit::Unit;
+pub use unit::UnitStepped;
+pub use write::AnswerWritten;
+pub use write::write_answer;
