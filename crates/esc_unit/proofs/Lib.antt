@@ -8,3 +8,4 @@ pub mod BooksLaws
 pub mod StepLaws
 pub mod UnitLaws
 pub mod CallLaws
+pub mod Cases

@@ -9,7 +9,6 @@ use lib.ListN.{length, getD, replicate}
 use borrow.Author.Tests.{eq-eqb, ne-eqb, le-leb, lt-leb}
 use Rattle.blheli_telemetry.specs.Reply.{accepted, refused}
 use Rattle.blheli_telemetry.proofs.Table.{at}
-use Rattle.esc_feedback.specs.declared.output.EscOutput.{EscOutput}
 use Rattle.esc_feedback.specs.declared.output.Lane.the-variants.{Output1}
 use Rattle.esc_unit.specs.Record.{widthOf, lanePlace, outputOf, knownKind, laneFits, flagFits, recordOf, readRecord}
 use Rattle.esc_unit.specs.Whole.{Whole}

@@ -19,11 +19,11 @@ use Rattle.esc_unit.specs.declared.answer.WireAnswer.the-variants as wir
 use Rattle.esc_unit.specs.declared.answer.Answer.the-variants as answer
 use Rattle.esc_unit.specs.declared.books.Books.{Books}
 
-module _ (m : EscManager) (b : Books) (now : ℕ) where
-  -- the sample, and what the idle check says to it
-  abbrev pub shown : EscTelemetryUpdate → Delivered
-  shown u = record { update = u; status = bookedIn b u now .status }
+-- the sample, and what the idle check says to it
+abbrev pub shown : Books → ℕ → EscTelemetryUpdate → Delivered
+shown b now u = record { update = u; status = bookedIn b u now .status }
 
+module _ (m : EscManager) (b : Books) (now : ℕ) where
   module _ (k : EscActuatorAck) where
     pub acked-rejected : onAck m k .answer ≡ outcome.Rejected
         → stepOf m b (kind.ActuatorAck k now) ≡ stepped (onAck m k .manager) b (answer.Ack ack.Rejected)
@@ -36,7 +36,7 @@ module _ (m : EscManager) (b : Books) (now : ℕ) where
     acked-accepted e = ap (ackedOn (onAck m k .manager) b now) e
 
     pub acked-sample : (u : EscTelemetryUpdate) → onAck m k .answer ≡ outcome.Sample u
-        → stepOf m b (kind.ActuatorAck k now) ≡ stepped (onAck m k .manager) (bookedIn b u now .books) (answer.Ack (ack.Sample (shown u)))
+        → stepOf m b (kind.ActuatorAck k now) ≡ stepped (onAck m k .manager) (bookedIn b u now .books) (answer.Ack (ack.Sample (shown b now u)))
     unfolding stepOf
     acked-sample u e = ap (ackedOn (onAck m k .manager) b now) e
 
@@ -47,7 +47,7 @@ module _ (m : EscManager) (b : Books) (now : ℕ) where
     received-none e = ap (receivedOn (pushWire m x now .manager) b now) e
 
     pub received-sample : (u : EscTelemetryUpdate) → pushWire m x now .answer ≡ update.Some u
-        → stepOf m b (kind.WireByte x now) ≡ stepped (pushWire m x now .manager) (bookedIn b u now .books) (answer.Wire (wire.Sample (shown u)))
+        → stepOf m b (kind.WireByte x now) ≡ stepped (pushWire m x now .manager) (bookedIn b u now .books) (answer.Wire (wire.Sample (shown b now u)))
     unfolding stepOf
     received-sample u e = ap (receivedOn (pushWire m x now .manager) b now) e
 

@@ -53,11 +53,14 @@ module _ (u : Unit) (room : ℕ) where
     call-unopened n e = ap (ifRoom u room (enter u r)) e ∙ enter-keeps u r n e
 
     module _ (a : Answer) (e : enter u r .reply ≡ accepted a) where
+      roomed : (b : Bool) → leb (length (answerBytes a)) room ≡ b → callOn u room (accepted r) ≡ pick b (enter u r) (refusing u 9)
+      roomed b l = ap (ifRoom u room (enter u r)) e ∙ ap (λ (x : Bool). pick x (enter u r) (refusing u 9)) l
+
       pub call-no-room : leb (length (answerBytes a)) room ≡ false → callOn u room (accepted r) ≡ refusing u 9
-      call-no-room l = ap (ifRoom u room (enter u r)) e ∙ ap (λ (b : Bool). pick b (enter u r) (refusing u 9)) l
+      call-no-room l = roomed false l
 
       pub call-answered : leb (length (answerBytes a)) room ≡ true → callOn u room (accepted r) ≡ enter u r
-      call-answered l = ap (ifRoom u room (enter u r)) e ∙ ap (λ (b : Bool). pick b (enter u r) (refusing u 9)) l
+      call-answered l = roomed true l
 
 -- a refused call leaves the unit and the lent output as found
 pub record Kept (u : Unit) (out : List ℕ) (k : Replied) : Type 0 where

@@ -1,7 +1,7 @@
 // The fields of a record, each at its type.
 ghost use mathlib.Core.Path.{_≡_};
 ghost use Prim.Native.Nat.{_+_, _≤_};
-ghost use lib.ListN.{length, getD};
+ghost use lib.ListN.{length};
 ghost use Rattle.blheli_telemetry.specs.BigEndian.{numberAt};
 ghost use Rattle.esc_unit.specs.Record.{timeAt, outputOf, requestAt, settingsOf, idleSettingsOf};
 use crate::reader::field;

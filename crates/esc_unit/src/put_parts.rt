@@ -42,7 +42,20 @@ fn put_request(out: &mut [u8], at: usize, request: EscActuatorRequest) -> usize
     put_lane(out, lane, request.output)
 }
 
-pub(crate) fn put_sample(out: &mut [u8], at: usize, update: EscTelemetryUpdate) -> usize
+pub(crate) fn put_marked_sample(
+    out: &mut [u8],
+    at: usize,
+    mark: u8,
+    update: EscTelemetryUpdate,
+) -> usize
+    requires { ⌜ Room at (mark ∷ sampleBytes update) (now out) ⌝ }
+    ensures { λ r. ⌜ Put at (mark ∷ sampleBytes update) (now (out .entry)) (now (out .exit)) r ⌝ }
+{
+    let behind = put_byte(out, at, mark);
+    put_sample(out, behind, update)
+}
+
+fn put_sample(out: &mut [u8], at: usize, update: EscTelemetryUpdate) -> usize
     requires { ⌜ Room at (sampleBytes update) (now out) ⌝ }
     ensures { λ r. ⌜ Put at (sampleBytes update) (now (out .entry)) (now (out .exit)) r ⌝ }
 {
@@ -75,8 +88,7 @@ pub(crate) fn put_delivered(out: &mut [u8], at: usize, delivered: Delivered) -> 
     ensures { λ r. ⌜ Put at (deliveredBytes delivered) (now (out .entry)) (now (out .exit)) r ⌝ }
 {
     let status = delivered.status;
-    let sample = put_byte(out, at, 0x02);
-    let idle = put_sample(out, sample, delivered.update);
+    let idle = put_marked_sample(out, at, 0x02, delivered.update);
     put_idle(out, idle, status)
 }
 

@@ -32,9 +32,11 @@ pub struct Stepped {
 
 pub enum StepReply {
     Answer(Answer),
+    // The record came before the first 00.
     Unopened,
 }
 
+// The unit after a record, or as found.
 pub struct UnitStepped {
     pub unit: Unit,
     pub reply: StepReply,
@@ -80,6 +82,7 @@ impl Unit {
         }
     }
 
+    // Whether the unit is open, or the record opens it.
     fn takes(self, record: Record) -> bool
         ensures { λ r. ⌜ r ≡ (self .opened || opens «record») ⌝ }
     {

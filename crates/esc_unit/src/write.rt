@@ -15,8 +15,8 @@ use crate::put_parts::put_delivered;
 use crate::put_parts::put_figure;
 use crate::put_parts::put_idle;
 use crate::put_parts::put_marked_request;
+use crate::put_parts::put_marked_sample;
 use crate::put_parts::put_report;
-use crate::put_parts::put_sample;
 use esc_feedback::BackAfterRetries;
 use esc_feedback::EscManagerTimeout;
 use esc_feedback::NextRequest;
@@ -120,9 +120,6 @@ fn put_stored(out: &mut [u8], at: usize, stored: StoredAnswer) -> usize
 {
     match stored {
         StoredAnswer::None => put_byte(out, at, 0x00),
-        StoredAnswer::Sample(update) => {
-            let behind = put_byte(out, at, 0x01);
-            put_sample(out, behind, update)
-        }
+        StoredAnswer::Sample(update) => put_marked_sample(out, at, 0x01, update),
     }
 }

@@ -1,8 +1,8 @@
 -- The number of the bytes read so far, one byte a turn.
 use borrow.Author.Needs.{needs}
 use native.Mathlib.Omega.{arith}
-use mathlib.Core.Path.{_≡_, refl, _∙_, ap}
-use Prim.Native.Nat.{_+_, _*_, _-_, _^_, _≤_, _<_}
+use mathlib.Core.Path.{_≡_, refl}
+use Prim.Native.Nat.{_-_, _^_, _≤_, _<_}
 use Rattle.blheli_telemetry.specs.BigEndian.{numberAt}
 use Rattle.esc_unit.proofs.NumberLaws.{number-more, below-more, seven-fit}
 use Rattle.esc_unit.proofs.reader.number_at.Statement.{statement}

@@ -19,14 +19,20 @@ enum-known-back c = search needs
 
 put-byte-requires-2 : tie.Need-put-byte-requires-2
 unfolding backBytes bytesOf
-put-byte-requires-2 c κs = let room = rw (c .before .before .back .given .1) at (c .before .before .before .before .before .pre) in record { fits = omega arith }
+put-byte-requires-2 c κs =
+    let some = c .before .before in
+    let room = rw (some .back .given .1) at (some .before .before .before .pre) in
+    record { fits = omega arith }
 
 cast-put-number : tie.Need-cast-put-number
 cast-put-number c = search needs
 
 put-number-requires : tie.Need-put-number-requires
 unfolding backBytes bytesOf
-put-number-requires c κs = let room = rw (c .before .before .before .before .before .before .back .given .1) at (c .before .before .before .before .before .before .before .before .before .pre) in record { fits = omega arith }
+put-number-requires c κs =
+    let some = c .before .before .before .before .before .before in
+    let room = rw (some .back .given .1) at (some .before .before .before .pre) in
+    record { fits = omega arith }
 
 same-length : tie.Need-same-length
 same-length c = search needs
@@ -43,8 +49,9 @@ unfolding backBytes bytesOf
 returns-2 c =
     let p₂ = c .before .before in
     let p₁ = p₂ .before .before .before .before in
-    let room = rw (c .before .before .before .before .before .before .before .before .before .back .given .1) at (c .before .before .before .before .before .before .before .before .before .before .before .before .pre) in
-    rw (c .before .before .before .before .before .before .before .before .before .back .given .1) (put-then (omega arith) (p₁ .put-byte2 .ensures) (p₂ .put-number .ensures))
+    let some = p₁ .before .before .before in
+    let room = rw (some .back .given .1) at (some .before .before .before .pre) in
+    rw (some .back .given .1) (put-then (omega arith) (p₁ .put-byte2 .ensures) (p₂ .put-number .ensures))
 
 pub put-back-spec : {M : Type 1} → statement M
 put-back-spec =

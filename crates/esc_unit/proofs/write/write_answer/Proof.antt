@@ -1,11 +1,10 @@
 -- Short of room nothing is stored; else 00 and the body behind it make the answer.
 use borrow.Author.Needs.{needs}
 use native.Mathlib.Omega.{arith}
-use mathlib.Core.Path.{_≡_, ap, sym, _∙_}
+use mathlib.Core.Path.{sym}
 use Prim.Native.Nat.{_<_, _≤_}
 use lib.ListN.{length}
 use Rattle.esc_unit.specs.Answer.{answerBytes}
-use Rattle.esc_unit.specs.Put.{Put}
 use Rattle.esc_unit.proofs.AnswerLaws.{answer-length}
 use Rattle.esc_unit.proofs.PutLaws.{put-then}
 use Rattle.esc_unit.proofs.WriteLaws.{short-reply, short-kept, room-reply, room-written}

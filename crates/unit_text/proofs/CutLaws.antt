@@ -1,0 +1,55 @@
+-- A line is cut off by what was held up to LF or to the chunk's end.
+use mathlib.Core.Path.{_≡_, refl, sym, ap, _∙_}
+use mathlib.Core.Bool.{Bool, true, false}
+use mathlib.Core.List.{List, [], _∷_, _++_}
+use Prim.Native.Nat.{ℕ, _+_, _≤_, _<_}
+use native.Mathlib.Omega.{arith}
+use lib.Dec.{eqb}
+use lib.ListN.{length, take}
+use Rattle.blheli_telemetry.specs.Choice.{pick}
+use Rattle.unit_text.specs.Line.{lineEnd, readLine, lineRead, recordLength}
+use Rattle.unit_text.specs.Cut.{firstLine, Holds, HeldTo, CutFrom}
+use Rattle.unit_text.specs.declared.line.LineRead.{LineRead}
+use Rattle.unit_text.specs.declared.cut.Held.{Held}
+use Rattle.unit_text.specs.declared.cut.Cut.the-variants.{Open, Line}
+use Rattle.unit_text.proofs.CutLine.{cut-line}
+
+-- a first line as long as its chunk is the chunk
+pub first-within : (chunk : List ℕ) → length (firstLine chunk) ≤ length chunk
+unfolding firstLine
+first-within [] = omega arith
+first-within (c ∷ chunk) = by (eqb c lineEnd) (first-within chunk)
+  where
+    by : (b : Bool) → length (firstLine chunk) ≤ length chunk → length (pick b [] (c ∷ firstLine chunk)) ≤ length (c ∷ chunk)
+    by true within = omega arith
+    by false within = omega arith
+
+first-whole : (chunk : List ℕ) → length (firstLine chunk) ≡ length chunk → firstLine chunk ≡ chunk
+unfolding firstLine
+first-whole [] e = refl
+first-whole (c ∷ chunk) e = by (eqb c lineEnd) (first-whole chunk) e
+  where
+    by : (b : Bool) → (length (firstLine chunk) ≡ length chunk → firstLine chunk ≡ chunk)
+        → length (pick b [] (c ∷ firstLine chunk)) ≡ length (c ∷ chunk) → pick b [] (c ∷ firstLine chunk) ≡ c ∷ chunk
+    by true whole e = absurd (omega arith)
+    by false whole e = ap (λ (l : List ℕ). c ∷ l) (whole (omega arith))
+
+module _ (begun chunk buffer bytes : List ℕ) (h : Held) (k : HeldTo begun chunk h buffer) where
+  pub cut-open : h .passed ≡ length chunk → CutFrom begun chunk (Open (h .held)) buffer bytes
+  cut-open e =
+      let whole : firstLine chunk ≡ chunk = first-whole chunk (omega (arith, k .passed)) in
+      (whole, rw whole at (k .holds))
+
+  pub cut-ended : (r : LineRead) → (h .passed ≡ length chunk → ⊥) → lineRead r bytes ≡ readLine (take (h .held) buffer)
+      → recordLength r ≤ 29 → CutFrom begun chunk (Line r (h .passed + 1)) buffer bytes
+  cut-ended r n e l =
+      let short : length (firstLine chunk) < length chunk = omega (arith, k .passed, first-within chunk, shorter) in (
+        short,
+        omega (arith, k .passed),
+        e ∙ ap readLine (k .holds .held) ∙ cut-line (begun ++ firstLine chunk),
+        l,
+        k .holds .room,
+      )
+    where
+      shorter : (length (firstLine chunk) ≡ length chunk) → ⊥
+      shorter q = n (k .passed ∙ q)

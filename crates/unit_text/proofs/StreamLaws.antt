@@ -1,0 +1,78 @@
+-- A stream of characters: it does not matter in which pieces they come.
+use mathlib.Core.Path.{_≡_, refl, ap, _∙_}
+use mathlib.Core.Bool.{Bool, true, false}
+use mathlib.Core.List.{List, [], _∷_, _++_, append-nil, append-assoc}
+use Prim.Native.Nat.{ℕ, suc, _+_, _*_, _≤_, _<_}
+use native.Mathlib.Omega.{arith}
+use native.Mathlib.Numerals.{add-one}
+use borrow.Author.Tests.{eq-eqb, ne-eqb}
+use lib.Dec.{eqb}
+use lib.ListN.{length, getD, take, drop, length-append}
+use lib.Seq.{take-suc, take-add}
+use Rattle.blheli_telemetry.specs.Choice.{pick}
+use Rattle.esc_unit.specs.Answer.{replyBytes}
+use Rattle.esc_unit.specs.declared.unit.Unit.{Unit}
+use Rattle.unit_text.specs.Line.{lineEnd, printedLine}
+use Rattle.unit_text.specs.Session.{answerLine, unitAfter, lineText}
+use Rattle.unit_text.specs.Stream.{Streamed, afterOne, printedAt, after, printed, printedAtEnd, longestLine}
+use Rattle.unit_text.proofs.AnswerLength.{reply-length}
+use Rattle.unit_text.proofs.PrintLaws.{printed-length}
+
+-- pieces do not matter
+pub after-append : (s : Streamed) (a b : List ℕ) → after s (a ++ b) ≡ after (after s a) b
+unfolding after
+after-append s [] b = refl
+after-append s (c ∷ a) b = after-append (afterOne s c) a b
+
+pub printed-append : (s : Streamed) (a b : List ℕ) → printed s (a ++ b) ≡ printed s a ++ printed (after s a) b
+unfolding after printed
+printed-append s [] b = refl
+printed-append s (c ∷ a) b = rw (printed-append (afterOne s c) a b, append-assoc (printedAt s c))
+
+-- at a character, by whether it ends the line
+module _ (s : Streamed) (c : ℕ) where
+  pub after-end : c ≡ lineEnd → afterOne s c ≡ record { unit = unitAfter (s .unit) (s .line); line = [] }
+  unfolding afterOne
+  after-end e = rw (eq-eqb c lineEnd e)
+
+  pub printed-end : c ≡ lineEnd → printedAt s c ≡ lineText (s .unit) (s .line)
+  unfolding printedAt
+  printed-end e = rw (eq-eqb c lineEnd e)
+
+  pub after-other : (c ≡ lineEnd → ⊥) → afterOne s c ≡ record { unit = s .unit; line = take 59 (s .line ++ c ∷ []) }
+  unfolding afterOne
+  after-other n = rw (ne-eqb c lineEnd n)
+
+  pub printed-other : (c ≡ lineEnd → ⊥) → printedAt s c ≡ []
+  unfolding printedAt
+  printed-other n = rw (ne-eqb c lineEnd n)
+
+-- one character more
+module _ (s : Streamed) (text : List ℕ) (i : ℕ) (h : i < length text) where
+  pub after-more : after s (take (i + 1) text) ≡ afterOne (after s (take i text)) (getD text i 0)
+  unfolding after
+  after-more = rw (add-one i, take-suc text i 0 h) (after-append s (take i text) (getD text i 0 ∷ []))
+
+  pub printed-more : printed s (take (i + 1) text) ≡ printed s (take i text) ++ printedAt (after s (take i text)) (getD text i 0)
+  unfolding printed
+  printed-more =
+      rw (add-one i, take-suc text i 0 h)
+      (printed-append s (take i text) (getD text i 0 ∷ []) ∙ rw (append-nil (printedAt (after s (take i text)) (getD text i 0))))
+
+-- no printed line takes more than 87 characters
+pub line-length : (u : Unit) (line : List ℕ) → length (lineText u line) ≤ longestLine
+unfolding lineText
+line-length u line =
+    omega (arith, printed-length (replyBytes (answerLine u line .reply)), reply-length (answerLine u line .reply))
+
+pick-length : (b : Bool) (x y : List ℕ) → length x ≤ longestLine → length y ≤ longestLine → length (pick b x y) ≤ longestLine
+pick-length true x y h k = h
+pick-length false x y h k = k
+
+pub printed-at-length : (s : Streamed) (c : ℕ) → length (printedAt s c) ≤ longestLine
+unfolding printedAt
+printed-at-length s c = pick-length (eqb c lineEnd) (lineText (s .unit) (s .line)) [] (line-length (s .unit) (s .line)) (omega arith)
+
+pub end-length : (s : Streamed) → length (printedAtEnd s) ≤ longestLine
+unfolding printedAtEnd
+end-length s = pick-length (eqb (length (s .line)) 0) [] (lineText (s .unit) (s .line)) (omega arith) (line-length (s .unit) (s .line))

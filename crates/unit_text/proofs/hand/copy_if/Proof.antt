@@ -1,0 +1,20 @@
+-- It is copied or not.
+use borrow.Author.Needs.{needs}
+use mathlib.Core.Path.{_∙_, sym}
+use Rattle.unit_text.proofs.hand.copy_if.Statement.{statement}
+use Rattle.unit_text.proofs.hand.copy_if.Tie as tie
+
+copy-requires : tie.Need-copy-requires
+copy-requires c κs = search needs
+
+same-length : tie.Need-same-length
+same-length c = search needs
+
+returns : tie.Need-returns
+returns c = rw (c .before .before .before .before .if1 .taken) (c .before .before .copy .ensures)
+
+returns-2 : tie.Need-returns-2
+returns-2 c = rw (c .if1 .left)
+
+pub copy-if-spec : {M : Type 1} → statement M
+copy-if-spec = tie.close (tie.spec copy-requires same-length returns returns-2)

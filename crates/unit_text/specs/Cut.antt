@@ -1,0 +1,37 @@
+-- A line cut off the front of a chunk.
+use Prim.Native.Nat.{ℕ, _+_, _≤_, _<_}
+use mathlib.Core.Path.{_≡_}
+use mathlib.Core.List.{List, [], _∷_, _++_}
+use lib.Dec.{eqb}
+use lib.ListN.{length, take}
+use Rattle.blheli_telemetry.specs.Choice.{pick}
+use Rattle.unit_text.specs.Line.{lineEnd, readLine, lineRead, recordLength}
+use Rattle.unit_text.specs.declared.cut.Held.{Held}
+use Rattle.unit_text.specs.declared.cut.Cut.{Cut}
+use Rattle.unit_text.specs.declared.cut.Cut.the-variants.{Open, Line}
+
+-- the characters before the first LF, or all
+unfoldable pub firstLine : List ℕ → List ℕ
+firstLine [] = []
+firstLine (c ∷ text) = pick (eqb c lineEnd) [] (c ∷ firstLine text)
+
+-- the first 59 characters of a line stand in front of its buffer
+pub record Holds (line : List ℕ) (n : ℕ) (buffer : List ℕ) : Type 0 where
+  pub room : length buffer ≡ 59
+  pub within : n ≤ 59
+  pub held : take n buffer ≡ take 59 line
+
+-- up to LF or to the chunk's end: the line that was begun goes on
+pub record HeldTo (begun chunk : List ℕ) (h : Held) (buffer : List ℕ) : Type 0 where
+  pub passed : h .passed ≡ length (firstLine chunk)
+  pub holds : Holds (begun ++ firstLine chunk) (h .held) buffer
+
+-- the line goes on behind the chunk, and is held; or LF ends it, and it is read as a whole
+abbrev pub CutFrom : List ℕ → List ℕ → Cut → List ℕ → List ℕ → Type 0
+CutFrom begun chunk (Open n) buffer bytes = (firstLine chunk ≡ chunk) × Holds (begun ++ chunk) n buffer
+CutFrom begun chunk (Line r next) buffer bytes =
+    (length (firstLine chunk) < length chunk)
+    × (next ≡ length (firstLine chunk) + 1)
+    × (lineRead r bytes ≡ readLine (begun ++ firstLine chunk))
+    × (recordLength r ≤ 29)
+    × (length buffer ≡ 59)

@@ -1,0 +1,9 @@
+pub mod Digit
+pub mod Line
+pub mod Session
+pub mod Stream
+pub mod Cut
+pub mod Answering
+pub mod Streams
+pub mod Handed
+pub mod Traced

@@ -1,0 +1,16 @@
+// Sessions of the ESC telemetry unit as text: a record in hexadecimal on each line, an answer in
+// hexadecimal on a line for each.
+mod answer;
+mod cut;
+mod digit;
+mod hand;
+mod line;
+mod stream;
+mod whole_session;
+
+pub use hand::Handed;
+pub use stream::Fed;
+pub use stream::LONGEST_LINE;
+pub use stream::Stream;
+pub use whole_session::esc_unit_session;
+pub use whole_session::session;

@@ -1,0 +1,83 @@
+// A line of hexadecimal characters and the bytes that it stands for.
+ghost use mathlib.Core.Path.{_≡_};
+ghost use Prim.Native.Nat.{_+_, _*_, _<_, _≤_};
+ghost use lib.ListN.{length};
+ghost use Rattle.blheli_telemetry.specs.BigEndian.{overwrite};
+ghost use Rattle.unit_text.specs.Digit.{digitOf, Tabled};
+ghost use Rattle.unit_text.specs.Line.{readLine, printedLine, lineRead, recordLength};
+use crate::digit::NO_DIGIT;
+use crate::digit::glyph;
+
+pub(crate) const LINE_END: u8 = b'\n';
+
+// The widest line, and the longest record.
+const WIDEST: usize = 58;
+
+pub(crate) const LONGEST_RECORD: usize = 29;
+
+pub(crate) enum LineRead {
+    // So many bytes.
+    Record(usize),
+    // 1 wide line, 2 digit, 3 half byte.
+    Refused(u8),
+}
+
+// Puts the bytes that a line stands for in front of `bytes`.
+pub(crate) fn read_line(digits: &[u8; 256], line: &[u8], bytes: &mut [u8]) -> LineRead
+    requires { ⌜ Tabled (now digits) × (length (now bytes) ≡ 29) ⌝ }
+    ensures { λ r. ⌜ (lineRead r (now (bytes .exit)) ≡ readLine (now (line .entry))) × (recordLength r ≤ 29) ⌝ }
+{
+    let count = line.len();
+    if WIDEST < count {
+        return LineRead::Refused(1);
+    }
+    let mut place: usize = 0;
+    let mut n: usize = 0;
+    while place + 1 < count {
+        let high = value(digits, line[place]);
+        let low = value(digits, line[place + 1]);
+        if NO_DIGIT <= high {
+            return LineRead::Refused(2);
+        }
+        if NO_DIGIT <= low {
+            return LineRead::Refused(2);
+        }
+        bytes[n] = high * 16 + low;
+        n += 1;
+        place += 2;
+    }
+    if place < count {
+        if NO_DIGIT <= value(digits, line[place]) {
+            return LineRead::Refused(2);
+        }
+        return LineRead::Refused(3);
+    }
+    LineRead::Record(n)
+}
+
+fn value(digits: &[u8; 256], character: u8) -> u8
+    requires { ⌜ Tabled (now digits) ⌝ }
+    ensures { λ r. ⌜ r ≡ digitOf character ⌝ }
+{
+    let entry = character as usize;
+    digits[entry]
+}
+
+// Writes bytes as a line of small digits from the place `at` on, and gives the place after it.
+pub(crate) fn print_line(bytes: &[u8], out: &mut [u8], at: usize) -> usize
+    requires { ⌜ at + (2 * length (now bytes) + 1) ≤ length (now out) ⌝ }
+    ensures { λ r. ⌜ r ≡ at + length (printedLine (now (bytes .entry))) ⌝ }
+    ensures { λ _. ⌜ now (out .exit) ≡ overwrite at (printedLine (now (bytes .entry))) (now (out .entry)) ⌝ }
+{
+    let mut next = at;
+    let mut i: usize = 0;
+    while i < bytes.len() {
+        let byte = bytes[i];
+        out[next] = glyph(byte / 16);
+        out[next + 1] = glyph(byte % 16);
+        next += 2;
+        i += 1;
+    }
+    out[next] = LINE_END;
+    next + 1
+}

@@ -1,0 +1,123 @@
+// A session fed in pieces of any size. Between two pieces it keeps the unit and the start of the line
+// that is not ended: the same memory for a line of any width.
+ghost use mathlib.Core.Path.{_≡_};
+ghost use Prim.Native.Nat.{min};
+ghost use lib.ListN.{length};
+ghost use Rattle.unit_text.specs.Session.{handedReply, handedOutput};
+ghost use Rattle.unit_text.specs.Stream.{atStart, feedOf, fedOutput, printedAtEnd};
+ghost use Rattle.unit_text.specs.Streams.{streamed, fed};
+ghost use Rattle.unit_text.specs.Handed.{handed};
+use crate::answer::answer;
+use crate::cut::Cut;
+use crate::cut::HELD;
+use crate::cut::next_line;
+use crate::digit::digits;
+use crate::hand::Handed;
+use crate::hand::hand;
+use crate::line::LINE_END;
+use crate::line::LONGEST_RECORD;
+use esc_unit::Unit;
+
+// As much as any printed line takes.
+pub const LONGEST_LINE: usize = 87;
+
+pub struct Stream {
+    unit: Unit,
+    line: [u8; HELD],
+    held: usize,
+}
+
+// The stream after what was used of a chunk, and how much was written.
+pub struct Fed {
+    pub stream: Stream,
+    pub used: usize,
+    pub written: usize,
+}
+
+impl Stream {
+    // A unit that was never opened, and no line begun.
+    pub fn new() -> Self
+        ensures { λ r. ⌜ streamed r ≡ atStart ⌝ }
+    {
+        let unit = Unit::new();
+        Self {
+            unit,
+            line: [0u8; HELD],
+            held: 0,
+        }
+    }
+
+    // Answers the lines of a chunk from the first entry of `out` on. It goes on as long as `out` has room
+    // for any line more, so with an output of LONGEST_LINE it uses something of every chunk.
+    pub fn feed(self, chunk: &[u8], out: &mut [u8]) -> Fed
+        ensures { λ r. ⌜ fed r ≡ feedOf (streamed self) (now (chunk .entry)) (length (now (out .entry))) ⌝ }
+        ensures { λ _. ⌜ now (out .exit) ≡ fedOutput (streamed self) (now (chunk .entry)) (now (out .entry)) ⌝ }
+    {
+        let digits = digits();
+        let mut bytes = [0u8; LONGEST_RECORD];
+        let mut unit = self.unit;
+        let mut line = self.line;
+        let mut held = at_most_held(self.held);
+        let mut used: usize = 0;
+        let mut written: usize = 0;
+        while used < chunk.len() {
+            if out.len() - written < LONGEST_LINE {
+                let stream = Stream { unit, line, held };
+                return Fed {
+                    stream,
+                    used,
+                    written,
+                };
+            }
+            let cut = next_line(&digits, &chunk[used..], &mut line, held, &mut bytes);
+            match cut {
+                Cut::Open(n) => {
+                    let stream = Stream {
+                        unit,
+                        line,
+                        held: n,
+                    };
+                    return Fed {
+                        stream,
+                        used: chunk.len(),
+                        written,
+                    };
+                }
+                Cut::Line(read, next) => {
+                    let answered = answer(unit, read, &bytes, out, written);
+                    unit = answered.unit;
+                    written = answered.next;
+                    held = 0;
+                    used += next;
+                }
+            }
+        }
+        let stream = Stream { unit, line, held };
+        Fed {
+            stream,
+            used,
+            written,
+        }
+    }
+
+    // Answers the line that the end of input ends, if there is one.
+    pub fn finish(self, out: &mut [u8]) -> Handed
+        ensures { λ r. ⌜ handed r ≡ handedReply (printedAtEnd (streamed self)) (length (now (out .entry))) ⌝ }
+        ensures { λ _. ⌜ now (out .exit) ≡ handedOutput (printedAtEnd (streamed self)) (now (out .entry)) ⌝ }
+    {
+        if self.held == 0 {
+            return Handed::Written(0);
+        }
+        let end = [LINE_END];
+        let mut text = [0u8; LONGEST_LINE];
+        let fed = self.feed(&end, &mut text);
+        hand(&text, fed.written, out)
+    }
+}
+
+// A line's buffer has no more than it can hold.
+fn at_most_held(n: usize) -> usize
+    ensures { λ r. ⌜ r ≡ min n 59 ⌝ }
+{
+    if n < HELD { n } else { HELD }
+}
