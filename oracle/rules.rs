@@ -1,7 +1,11 @@
-//! Document 01's rules for kinds 00 to 0d, written as functions of the records and answers so
-//! far, compared with the two Rust files on random lists.
-//! Usage: rules [lists] [seed]
+//! Document 01's rules for kinds 00 to 0e, written as functions of the records and answers so
+//! far, compared with the two Rust files on random lists. What the Rust has not (figures) is written
+//! down twice. Writes the lists as a session and the answers as what it must print.
+//! Usage: rules LISTS SEED SESSION ANSWERS
+mod lines;
 use esc_manager::*;
+use std::fs::File;
+use std::io::{BufWriter, Write};
 use ferrowasp_blheli_telemetry::crc8;
 
 #[derive(Clone, Copy, Debug)]
@@ -19,6 +23,7 @@ enum Rec {
     Status(u64),
     Report,
     Stored(u8),
+    Figures(u8),
 }
 type Sample = (u8, u32, u64, [u8; 9]);
 #[derive(Clone, Copy, Debug, PartialEq)]
@@ -33,6 +38,7 @@ enum St {
 #[derive(Clone, Copy, Debug, PartialEq)]
 enum Ans {
     Nothing,
+    Quiet, // a 05 without a sample
     Bool(bool),
     Req(Option<(u32, u8)>),
     Time(Option<(bool, u32, u8)>), // true: response
@@ -43,6 +49,7 @@ enum Ans {
     Note(Option<u32>),
     Report(bool, bool, [u32; 10]),
     Stored(Option<Sample>),
+    Figures(u32, u8, u16),
 }
 
 fn due(start: u64, now: u64, d: u32) -> bool {
@@ -53,6 +60,7 @@ fn due(start: u64, now: u64, d: u32) -> bool {
 struct Unit {
     m: EscManager,
     q: Option<EscIdleQualification>,
+    figures: [(u32, u8, u16); 4],
 }
 fn lane(o: EscOutput) -> u8 {
     o.index() as u8
@@ -79,6 +87,11 @@ fn status(s: EscIdleQualificationStatus) -> St {
 }
 impl Unit {
     fn observed(&mut self, u: EscTelemetryUpdate, now: u64) -> Ans {
+        let (t, f) = (&u.observation.sample, &mut self.figures[u.output.index()]);
+        *f = match *f {
+            (0, _, _) => (1, t.temperature_c, t.voltage_cv),
+            (n, hottest, lowest) => (n.saturating_add(1), hottest.max(t.temperature_c), lowest.min(t.voltage_cv)),
+        };
         let s = match &mut self.q {
             Some(q) => status(q.observe(u, now)),
             None => St::NoCheck,
@@ -99,7 +112,7 @@ impl Unit {
                 EscManagerTimeout::TelemetryResponse(q) => (true, q.sequence, lane(q.output)),
             })),
             Rec::Byte(b, t) => match self.m.push_wire_byte(b, t) {
-                None => Ans::Nothing,
+                None => Ans::Quiet,
                 Some(u) => self.observed(u, t),
             },
             Rec::Cut => {
@@ -133,6 +146,10 @@ impl Unit {
                 )
             }
             Rec::Stored(l) => Ans::Stored(self.m.samples()[l as usize].map(|o| sample(l, &o))),
+            Rec::Figures(l) => {
+                let (n, hottest, lowest) = self.figures[l as usize];
+                Ans::Figures(n, hottest, lowest)
+            }
         }
     }
 }
@@ -368,12 +385,12 @@ fn paper(h: &H, c: &EscManagerConfig, boot: u64, r: Rec) -> Ans {
         }
         Rec::Byte(_, t) => {
             let mut h2 = h.clone();
-            h2.push((r, Ans::Nothing));
+            h2.push((r, Ans::Quiet));
             let f = framing(&h2);
-            let Some((Some(w), true)) = f[h2.len() - 1] else { return Ans::Nothing };
-            let Some(i) = open(h) else { return Ans::Nothing };
+            let Some((Some(w), true)) = f[h2.len() - 1] else { return Ans::Quiet };
+            let Some(i) = open(h) else { return Ans::Quiet };
             if acked(h, i).is_none() {
-                return Ans::Nothing;
+                return Ans::Quiet;
             }
             let (s, l, _) = granted(&h[i]).unwrap();
             let smp = (l, s, t, w[..9].try_into().unwrap());
@@ -446,6 +463,14 @@ fn paper(h: &H, c: &EscManagerConfig, boot: u64, r: Rec) -> Ans {
             }
             Ans::Report(faulted(h), retries(h) != 0, x)
         }
+        Rec::Figures(l) => {
+            let of_lane: Vec<[u8; 9]> = h.iter().filter_map(delivered).filter(|s| s.0 == l).map(|s| s.3).collect();
+            Ans::Figures(
+                of_lane.len() as u32,
+                of_lane.iter().map(|p| p[0]).max().unwrap_or(0),
+                of_lane.iter().map(|p| u16::from_be_bytes([p[1], p[2]])).min().unwrap_or(0),
+            )
+        }
         Rec::Stored(l) => {
             for e in h.iter().rev() {
                 if matches!(e, (Rec::Recover(..), a) if yes(a)) {
@@ -474,11 +499,20 @@ impl Rng {
     fn pick<T: Copy>(&mut self, x: &[T]) -> T {
         x[self.n(x.len() as u64) as usize]
     }
+    /// A frame of zeros or of any bytes, its eRPM and check byte yet to be set.
+    fn frame(&mut self) -> [u8; 10] {
+        let mut f = [0u8; 10];
+        if self.n(2) == 0 {
+            f[..7].fill_with(|| self.n(256) as u8);
+        }
+        f
+    }
 }
 
 fn main() {
-    let lists: u64 = std::env::args().nth(1).map_or(100_000, |x| x.parse().unwrap());
-    let seed: u64 = std::env::args().nth(2).map_or(1, |x| x.parse().unwrap());
+    let words: Vec<String> = std::env::args().collect();
+    let (lists, seed): (u64, u64) = (words[1].parse().unwrap(), words[2].parse().unwrap());
+    let [mut session, mut answers] = [3, 4].map(|i| BufWriter::new(File::create(&words[i]).unwrap()));
     let mut g = Rng(seed.wrapping_mul(0x9e3779b97f4a7c15) | 1);
     let (mut records, mut samples, mut qualified, mut over, mut timeouts, mut recov, mut notes, mut unsol) = (0u64, 0u64, 0u64, 0u64, 0u64, 0u64, 0u64, 0u64);
     let mut first_by_status = 0u64;
@@ -492,7 +526,9 @@ fn main() {
         };
         let mut now: u64 = g.pick(&[0, 0, 100, 1 << 32, u64::MAX - 60, u64::MAX - 5]);
         let boot = now.wrapping_sub(g.n(6));
-        let mut u = Unit { m: EscManager::new(c, boot), q: None };
+        let mut u = Unit { m: EscManager::new(c, boot), q: None, figures: [(0, 0, 0); 4] };
+        writeln!(session, "{}", lines::opening(&c, boot)).unwrap();
+        writeln!(answers, "{}", lines::answer(&Ans::Nothing)).unwrap();
         let mut h: H = Vec::new();
         let mut queue: Vec<Rec> = Vec::new();
         let len = 40 + g.n(260) as usize;
@@ -519,7 +555,7 @@ fn main() {
                 match g.n(34) {
                     24..=31 => {
                         // a whole turn: 02, 03 and a frame in some order
-                        let mut f = [0u8; 10];
+                        let mut f = g.frame();
                         f[8] = g.pick(&[50, 30, 100, 60, 50, 50, 29]);
                         f[9] = crc8(&f[..9]);
                         let early = g.n(3) == 0;
@@ -553,8 +589,7 @@ fn main() {
                     }
                     10 => Rec::Poll(t),
                     11..=14 => {
-                        let mut f = [0u8; 10];
-                        f[0] = g.pick(&[0, 0, 25]);
+                        let mut f = g.frame();
                         f[8] = g.pick(&[30, 30, 30, 60, 100, 29, 101]);
                         if g.n(3) != 0 {
                             f[8] = 50;
@@ -584,7 +619,7 @@ fn main() {
                         }, t)
                     } else { Rec::Status(t) },
                     20 => Rec::Report,
-                    21 => Rec::Stored(g.n(4) as u8),
+                    21 => if g.n(2) == 0 { Rec::Stored(g.n(4) as u8) } else { Rec::Figures(g.n(4) as u8) },
                     _ => {
                         now = now.wrapping_add(g.pick(&[1, 1, 2, 5, 20]));
                         continue;
@@ -600,6 +635,8 @@ fn main() {
                 std::process::exit(1);
             }
             records += 1;
+            writeln!(session, "{}", lines::record(&r)).unwrap();
+            writeln!(answers, "{}", lines::answer(&got)).unwrap();
             match got {
                 Ans::Sample(_, s) => {
                     samples += 1;

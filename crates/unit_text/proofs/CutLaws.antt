@@ -1,5 +1,5 @@
 -- A line is cut off by what was held up to LF or to the chunk's end.
-use mathlib.Core.Path.{_≡_, refl, sym, ap, _∙_}
+use mathlib.Core.Path.{_≡_, refl, ap, _∙_}
 use mathlib.Core.Bool.{Bool, true, false}
 use mathlib.Core.List.{List, [], _∷_, _++_}
 use Prim.Native.Nat.{ℕ, _+_, _≤_, _<_}
@@ -8,7 +8,7 @@ use lib.Dec.{eqb}
 use lib.ListN.{length, take}
 use Rattle.blheli_telemetry.specs.Choice.{pick}
 use Rattle.unit_text.specs.Line.{lineEnd, readLine, lineRead, recordLength}
-use Rattle.unit_text.specs.Cut.{firstLine, Holds, HeldTo, CutFrom}
+use Rattle.unit_text.specs.Cut.{firstLine, HeldTo, CutFrom}
 use Rattle.unit_text.specs.declared.line.LineRead.{LineRead}
 use Rattle.unit_text.specs.declared.cut.Held.{Held}
 use Rattle.unit_text.specs.declared.cut.Cut.the-variants.{Open, Line}
@@ -34,7 +34,7 @@ first-whole (c ∷ chunk) e = by (eqb c lineEnd) (first-whole chunk) e
     by true whole e = absurd (omega arith)
     by false whole e = ap (λ (l : List ℕ). c ∷ l) (whole (omega arith))
 
-module _ (begun chunk buffer bytes : List ℕ) (h : Held) (k : HeldTo begun chunk h buffer) where
+module _ {begun chunk buffer : List ℕ} {h : Held} (k : HeldTo begun chunk h buffer) (bytes : List ℕ) where
   pub cut-open : h .passed ≡ length chunk → CutFrom begun chunk (Open (h .held)) buffer bytes
   cut-open e =
       let whole : firstLine chunk ≡ chunk = first-whole chunk (omega (arith, k .passed)) in

@@ -1,13 +1,10 @@
 -- What a feed hands back, by the characters that it used.
 use mathlib.Core.Path.{_≡_, refl, sym, ap, _∙_}
-use mathlib.Core.Bool.{Bool, true, false}
-use mathlib.Core.List.{List, [], _∷_, _++_}
-use Prim.Native.Nat.{ℕ, zero, suc, _+_, _-_, _≤_, _<_}
+use mathlib.Core.List.{List, [], _∷_}
+use Prim.Native.Nat.{ℕ, zero, suc, _-_, _≤_, _<_}
 use native.Mathlib.Omega.{arith}
 use borrow.Author.Tests.{le-leb, lt-leb}
 use lib.ListN.{length, take, length-append, length-take}
-use lib.Seq.{take-length, take-nil, take-take}
-use Rattle.blheli_telemetry.specs.BigEndian.{overwrite}
 use Rattle.blheli_telemetry.proofs.ByCases.{below-or-not}
 use Rattle.blheli_telemetry.proofs.BigEndianLaws.{overwrite-front}
 use Rattle.unit_text.specs.Stream.{Streamed, Taken, afterOne, printedAt, after, printed, taken, takenText, feedOf, fedOutput, longestLine}

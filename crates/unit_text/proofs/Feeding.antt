@@ -1,22 +1,21 @@
 -- What feeding a chunk keeps from line to line: the stream, the output and the count are those of the characters passed.
 use mathlib.Core.Path.{_≡_, refl, sym, ap, _∙_}
 use mathlib.Core.List.{List, [], _∷_, _++_, append-nil, append-assoc}
-use Prim.Native.Nat.{ℕ, suc, _+_, _-_, _≤_, _<_, min}
+use Prim.Native.Nat.{ℕ, _+_, _-_, _≤_, _<_, min}
 use native.Mathlib.Omega.{arith}
 use native.Mathlib.Nat.{add-zero}
-use native.Mathlib.Numerals.{add-one}
-use lib.ListN.{length, getD, take, drop, length-append, length-drop, take-append-drop, drop-of-length-le}
-use lib.Seq.{take-all, take-add, take-at, drop-drop, drop-cons, length-take-le}
+use lib.ListN.{length, take, drop, length-append, length-drop, take-append-drop, drop-of-length-le}
+use lib.Seq.{take-all, take-add, take-at, drop-drop, length-take-le}
 use Rattle.blheli_telemetry.specs.BigEndian.{overwrite}
 use Rattle.blheli_telemetry.proofs.ByCases.{below-or-not}
-use Rattle.blheli_telemetry.proofs.BigEndianLaws.{overwrite-append, overwrite-length}
+use Rattle.blheli_telemetry.proofs.BigEndianLaws.{overwrite-append}
 use Rattle.esc_unit.specs.Unit.{Replied}
 use Rattle.esc_unit.specs.Answer.{replyBytes}
 use Rattle.esc_unit.specs.declared.unit.Unit.{Unit}
-use Rattle.unit_text.specs.Line.{lineEnd, readLine, lineRead, printedLine}
+use Rattle.unit_text.specs.Line.{lineEnd, lineRead, printedLine}
 use Rattle.unit_text.specs.Session.{answerOn, answerLine, unitAfter, lineText}
-use Rattle.unit_text.specs.Stream.{Streamed, Taken, after, printed, taken, takenText, feedOf, fedOutput, longestLine}
-use Rattle.unit_text.specs.Cut.{firstLine, Holds, CutFrom}
+use Rattle.unit_text.specs.Stream.{Streamed, after, printed, taken, feedOf, fedOutput, longestLine}
+use Rattle.unit_text.specs.Cut.{firstLine, CutFrom}
 use Rattle.unit_text.specs.Answering.{AnsweredAt}
 use Rattle.unit_text.specs.declared.line.LineRead.{LineRead}
 use Rattle.unit_text.specs.declared.cut.Cut.the-variants.{Open, Line}
@@ -80,7 +79,7 @@ module _ (s : Streamed) (chunk out₀ : List ℕ) (t : Streamed) (out : List ℕ
   unfolding feedOf fedOutput
   fed-by e h t≡ w≡ o≡ = (rw (e, t≡, w≡, length-take-le used chunk h), rw e o≡)
 
-module _ (s : Streamed) (chunk out₀ : List ℕ) (unit : Unit) (line : List ℕ) (held : ℕ) (bytes out : List ℕ) (used written : ℕ)
+module _ {s : Streamed} {chunk out₀ : List ℕ} {unit : Unit} {line : List ℕ} {held : ℕ} {bytes out : List ℕ} {used written : ℕ}
     (k : Feeding s chunk out₀ unit line held bytes out used written) where
   abbrev left : List ℕ
   left = drop used chunk

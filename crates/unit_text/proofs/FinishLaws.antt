@@ -1,14 +1,14 @@
 -- The end of input: it answers a line that was begun as an LF would, and no other.
-use mathlib.Core.Path.{_≡_, refl, sym, ap, _∙_}
-use mathlib.Core.List.{List, [], _∷_, _++_, append-nil}
-use Prim.Native.Nat.{ℕ, _+_, _≤_, _<_}
+use mathlib.Core.Path.{_≡_, refl, sym, _∙_}
+use mathlib.Core.List.{List, [], _∷_, append-nil}
+use Prim.Native.Nat.{ℕ}
 use native.Mathlib.Omega.{arith}
-use borrow.Author.Tests.{eq-eqb, ne-eqb, le-leb}
+use borrow.Author.Tests.{eq-eqb, ne-eqb}
 use lib.ListN.{length, take}
-use Rattle.blheli_telemetry.specs.Reply.{Reply, accepted, refused}
+use Rattle.blheli_telemetry.specs.Reply.{accepted}
 use Rattle.unit_text.specs.Line.{lineEnd}
-use Rattle.unit_text.specs.Session.{lineText, handedReply, handedOutput}
-use Rattle.unit_text.specs.Stream.{Streamed, Taken, printed, printedAtEnd, taken, feedOf, fedOutput, longestLine}
+use Rattle.unit_text.specs.Session.{handedReply, handedOutput}
+use Rattle.unit_text.specs.Stream.{Streamed, Taken, printed, printedAtEnd, feedOf, fedOutput, longestLine}
 use Rattle.unit_text.proofs.PrintLaws.{overwrite-none}
 use Rattle.unit_text.proofs.StreamLaws.{printed-end}
 use Rattle.unit_text.proofs.HandLaws.{fits-reply, fits-output}

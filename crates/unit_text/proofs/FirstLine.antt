@@ -12,7 +12,6 @@ use lib.Seq.{take-suc, take-all, drop-cons, length-take-le}
 use Rattle.blheli_telemetry.specs.Choice.{pick}
 use Rattle.unit_text.specs.Line.{lineEnd}
 use Rattle.unit_text.specs.Cut.{firstLine, Holds, HeldTo}
-use Rattle.unit_text.specs.declared.cut.Held.{Held}
 use Rattle.unit_text.proofs.LinesLaws.{Unended}
 use Rattle.unit_text.proofs.HoldLaws.{holds-front, holds-more}
 
@@ -55,7 +54,7 @@ holding-none chunk buffer n room h =
       holds = rw (append-nil (take n buffer)) (holds-front buffer n room h);
     }
 
-module _ (begun chunk : List ℕ) (passed n : ℕ) (buffer : List ℕ) (k : Holding begun chunk passed n buffer) where
+module _ {begun chunk : List ℕ} {passed n : ℕ} {buffer : List ℕ} (k : Holding begun chunk passed n buffer) where
   pub holding-more : (n′ : ℕ) (buffer′ : List ℕ) → passed < length chunk → (getD chunk passed 0 ≡ lineEnd → ⊥)
       → Holds (take n buffer ++ getD chunk passed 0 ∷ []) n′ buffer′ → Holding begun chunk (passed + 1) n′ buffer′
   holding-more n′ buffer′ h e s =

@@ -1,6 +1,6 @@
 -- A text handed over in a lent output, where it fits and where it does not; and copying it.
 use mathlib.Core.Path.{_≡_, sym, ap, _∙_}
-use mathlib.Core.List.{List, [], _∷_, _++_}
+use mathlib.Core.List.{List, [], _∷_}
 use Prim.Native.Nat.{ℕ, _+_, _≤_, _<_}
 use native.Mathlib.Omega.{arith}
 use native.Mathlib.Numerals.{add-one}
@@ -39,6 +39,13 @@ module _ (text out : List ℕ) where
       let z : _≡_ {A = ℕ} 0 1 = cc in
       absurd (omega arith))
       (λ h. h)
+
+  pub told-within : (n : ℕ) → accepted n ≡ handedReply text (length out) → n ≤ length out
+  told-within n e =
+      let h : length text ≤ length out = told-fits n e in
+      let q : accepted n ≡ accepted (length text) = e ∙ fits-reply h in
+      let count : n ≡ length text = cc in
+      omega arith
 
   pub told-space : refused 9 ≡ handedReply text (length out) → out ≡ handedOutput text out
   told-space e =

@@ -1,7 +1,7 @@
 -- What is left of a line while it is read, behind the bytes put so far, says what the whole line does.
 use mathlib.Core.Path.{_≡_, refl, sym, ap, _∙_}
 use mathlib.Core.List.{List, [], _++_, append-nil}
-use Prim.Native.Nat.{ℕ, _+_, _*_, _%_, _≤_, _<_}
+use Prim.Native.Nat.{ℕ, _+_, _*_, _≤_, _<_}
 use native.Mathlib.Omega.{arith}
 use lib.ListN.{length, getD, set, take, drop, length-set, drop-of-length-le}
 use Rattle.blheli_telemetry.specs.Reply.{accepted, refused}
@@ -17,7 +17,7 @@ pub record Left (line bytes : List ℕ) (place n : ℕ) : Type 0 where
   pub digits : allDigits line ≡ allDigits (drop place line)
   pub put : pairs line ≡ take n bytes ++ pairs (drop place line)
 
-module _ (line bytes : List ℕ) (place n : ℕ) (l : Left line bytes place n) where
+module _ {line bytes : List ℕ} {place n : ℕ} (l : Left line bytes place n) where
   pub left-first : place < length line → 16 ≤ digitOf (getD line place 0) → readLine line ≡ refused 2
   left-first h bad = read-digit line (l .fits) (l .digits ∙ first-bad line place h bad)
 

@@ -9,7 +9,7 @@ use lib.Seq.{take-all}
 use Rattle.esc_unit.specs.declared.unit.Unit.{Unit}
 use Rattle.unit_text.specs.Line.{lineEnd}
 use Rattle.unit_text.specs.Session.{unitAfter, lineText}
-use Rattle.unit_text.specs.Stream.{Streamed, afterOne, printedAt, after, printed, taken, longestLine}
+use Rattle.unit_text.specs.Stream.{Streamed, afterOne, after, printed, taken, longestLine}
 use Rattle.unit_text.proofs.CutLine.{cut-more, cut-unit, cut-text}
 use Rattle.unit_text.proofs.LinesLaws.{Unended}
 use Rattle.unit_text.proofs.StreamLaws.{after-append, printed-append, after-end, printed-end, after-other, printed-other}
@@ -46,9 +46,6 @@ taken-stop s room [] h = refl
 taken-stop s room (c ∷ text) h = rw (lt-leb longestLine room (omega arith))
 
 module _ (u : Unit) (line more : List ℕ) (short : length line ≤ 59) (n : Unended more) where
-  begun : Streamed
-  begun = record { unit = u; line = line }
-
   pub after-held : after (record { unit = u; line = line }) more ≡ record { unit = u; line = take 59 (line ++ more) }
   after-held = ap (λ (l : List ℕ). after (record { unit = u; line = l }) more) (sym (take-all 59 line short)) ∙ past u line more n
 

@@ -1,7 +1,7 @@
 -- What a pass over a text keeps from piece to piece, and what it hands back.
 use mathlib.Core.Path.{_≡_, refl, sym, ap, _∙_}
 use mathlib.Core.Bool.{Bool, true, false}
-use mathlib.Core.List.{List, [], _∷_, _++_, append-assoc}
+use mathlib.Core.List.{List, [], _++_, append-assoc}
 use Prim.Native.Nat.{ℕ, _+_, _-_, _≤_, _<_}
 use native.Mathlib.Omega.{arith}
 use lib.ListN.{length, take, drop, length-append, length-drop, take-append-drop}
@@ -11,9 +11,9 @@ use Rattle.blheli_telemetry.specs.Reply.{Reply, accepted, refused}
 use Rattle.blheli_telemetry.specs.BigEndian.{overwrite}
 use Rattle.blheli_telemetry.proofs.BigEndianLaws.{overwrite-append, overwrite-front}
 use Rattle.unit_text.specs.Session.{sessionText, handedReply, handedOutput}
-use Rattle.unit_text.specs.Stream.{Streamed, Taken, atStart, after, printed, printedAtEnd, feedOf, fedOutput, longestLine}
+use Rattle.unit_text.specs.Stream.{Streamed, Taken, atStart, after, printed, printedAtEnd, feedOf, fedOutput}
 use Rattle.unit_text.proofs.PrintLaws.{overwrite-none}
-use Rattle.unit_text.proofs.StreamLaws.{after-append, printed-append, end-length}
+use Rattle.unit_text.proofs.StreamLaws.{after-on, printed-append, end-length}
 use Rattle.unit_text.proofs.SessionLaws.{streamed-session}
 use Rattle.unit_text.proofs.HandLaws.{fits-reply, fits-output, short-reply}
 use Rattle.unit_text.proofs.FedLaws.{fed-stream, fed-written, fed-within, fed-some, fed-fits, fed-text}
@@ -54,8 +54,8 @@ abbrev HandsBack : List ℕ → List ℕ → Bool → Reply ℕ → List ℕ →
 HandsBack text out₀ writes r out =
     (r ≡ handedReply (sessionText text) (length out₀)) × (out ≡ pick writes (overwrite 0 (sessionText text) out₀) out₀)
 
-module _ (text out₀ : List ℕ) (writes : Bool) (asked : writes ≡ true → length (sessionText text) ≤ length out₀)
-    (s : Streamed) (piece out : List ℕ) (used written : ℕ) (k : Passing text out₀ writes s piece out used written) where
+module _ {text out₀ : List ℕ} {writes : Bool} {s : Streamed} {piece out : List ℕ} {used written : ℕ}
+    (k : Passing text out₀ writes s piece out used written) (asked : writes ≡ true → length (sessionText text) ≤ length out₀) where
   abbrev done : List ℕ
   done = printed atStart (take used text)
 
@@ -119,7 +119,7 @@ module _ (text out₀ : List ℕ) (writes : Bool) (asked : writes ≡ true → l
           within = passing-within;
           room = lp ∙ k .room;
           long = lo ∙ k .long;
-          stream = fed-stream s (drop used text) 4096 t e ∙ rw (further, after-append atStart (take used text) (take (t .used) (drop used text)), ← k .stream);
+          stream = fed-stream s (drop used text) 4096 t e ∙ after-on atStart s text used (t .used) (k .stream);
           count = sym further-length;
           fits = omega (arith, k .fits);
           copied =

@@ -1,6 +1,6 @@
 -- Printing bytes as a line: its length, and a byte's two characters more.
 use mathlib.Core.Path.{_≡_, refl, ap, sym, _∙_}
-use mathlib.Core.List.{List, [], _∷_, _++_, append-assoc}
+use mathlib.Core.List.{List, [], _∷_, _++_}
 use Prim.Native.Nat.{ℕ, _+_, _*_, _/_, _%_, _≤_, _<_}
 use native.Mathlib.Omega.{arith}
 use native.Mathlib.Nat.{add-zero}
@@ -8,7 +8,7 @@ use native.Mathlib.Numerals.{add-one}
 use lib.ListN.{length, getD, set, take, length-append, take-append-drop}
 use lib.Seq.{take-suc, take-all, length-take-le}
 use Rattle.blheli_telemetry.specs.BigEndian.{overwrite}
-use Rattle.blheli_telemetry.proofs.BigEndianLaws.{overwrite-append, overwrite-set, overwrite-two, overwrite-length}
+use Rattle.blheli_telemetry.proofs.BigEndianLaws.{overwrite-append, overwrite-set, overwrite-two}
 use Rattle.unit_text.specs.Digit.{glyphOf}
 use Rattle.unit_text.specs.Line.{hexOf, printedLine}
 

@@ -1,13 +1,13 @@
 -- What a call of the unit leaves in its buffer is the bytes of its reply.
-use mathlib.Core.Path.{_≡_, refl, sym, ap, _∙_}
+use mathlib.Core.Path.{_≡_, ap, _∙_}
 use mathlib.Core.List.{List, [], _∷_}
-use Prim.Native.Nat.{ℕ, _+_, _≤_, _<_}
+use Prim.Native.Nat.{ℕ, _≤_, _<_}
 use native.Mathlib.Omega.{arith}
 use lib.ListN.{length, take, set}
 use lib.Seq.{take-suc-set}
 use Rattle.blheli_telemetry.specs.Reply.{Reply, accepted, refused}
 use Rattle.blheli_telemetry.proofs.BigEndianLaws.{overwrite-front}
-use Rattle.esc_unit.specs.Unit.{Replied, refusing, outputAfter, lengthOf}
+use Rattle.esc_unit.specs.Unit.{Replied, outputAfter, lengthOf}
 use Rattle.esc_unit.specs.Answer.{answerBytes, replyBytes}
 use Rattle.esc_unit.specs.declared.answer.Answer.{Answer}
 use Rattle.esc_unit.specs.declared.unit.Unit.{Unit}

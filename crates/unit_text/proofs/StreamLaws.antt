@@ -1,18 +1,18 @@
 -- A stream of characters: it does not matter in which pieces they come.
-use mathlib.Core.Path.{_≡_, refl, ap, _∙_}
+use mathlib.Core.Path.{_≡_, refl, sym, _∙_}
 use mathlib.Core.Bool.{Bool, true, false}
 use mathlib.Core.List.{List, [], _∷_, _++_, append-nil, append-assoc}
-use Prim.Native.Nat.{ℕ, suc, _+_, _*_, _≤_, _<_}
+use Prim.Native.Nat.{ℕ, _+_, _≤_, _<_}
 use native.Mathlib.Omega.{arith}
 use native.Mathlib.Numerals.{add-one}
 use borrow.Author.Tests.{eq-eqb, ne-eqb}
 use lib.Dec.{eqb}
-use lib.ListN.{length, getD, take, drop, length-append}
+use lib.ListN.{length, getD, take, drop}
 use lib.Seq.{take-suc, take-add}
 use Rattle.blheli_telemetry.specs.Choice.{pick}
 use Rattle.esc_unit.specs.Answer.{replyBytes}
 use Rattle.esc_unit.specs.declared.unit.Unit.{Unit}
-use Rattle.unit_text.specs.Line.{lineEnd, printedLine}
+use Rattle.unit_text.specs.Line.{lineEnd}
 use Rattle.unit_text.specs.Session.{answerLine, unitAfter, lineText}
 use Rattle.unit_text.specs.Stream.{Streamed, afterOne, printedAt, after, printed, printedAtEnd, longestLine}
 use Rattle.unit_text.proofs.AnswerLength.{reply-length}
@@ -28,6 +28,9 @@ pub printed-append : (s : Streamed) (a b : List ℕ) → printed s (a ++ b) ≡ 
 unfolding after printed
 printed-append s [] b = refl
 printed-append s (c ∷ a) b = rw (printed-append (afterOne s c) a b, append-assoc (printedAt s c))
+
+pub after-on : (s t : Streamed) (text : List ℕ) (a b : ℕ) → t ≡ after s (take a text) → after t (take b (drop a text)) ≡ after s (take (a + b) text)
+after-on s t text a b e = rw (take-add a b text, e) (sym (after-append s (take a text) (take b (drop a text))))
 
 -- at a character, by whether it ends the line
 module _ (s : Streamed) (c : ℕ) where

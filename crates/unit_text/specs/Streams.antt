@@ -1,5 +1,4 @@
 -- What a stream of the code stands for.
-use Prim.Native.Nat.{ℕ}
 use lib.ListN.{take}
 use Rattle.unit_text.specs.Stream.{Streamed, Taken}
 use Rattle.unit_text.specs.declared.stream.Stream.{Stream}

@@ -1,8 +1,8 @@
 -- The reply stands in front of the buffer, and is printed from there.
 use borrow.Author.Needs.{needs}
 use native.Mathlib.Omega.{arith}
-use mathlib.Core.Path.{_≡_, sym, ap, _∙_}
-use lib.ListN.{length, length-take}
+use mathlib.Core.Path.{sym}
+use lib.ListN.{length-take}
 use lib.Seq.{length-take-le}
 use Rattle.unit_text.proofs.answer.answer.Statement.{statement}
 use Rattle.unit_text.proofs.answer.answer.Tie as tie

@@ -1,8 +1,7 @@
 -- A refusal is its number; otherwise the unit is called, and writes its answer or refuses.
 use borrow.Author.Needs.{needs}
 use native.Mathlib.Omega.{arith}
-use mathlib.Core.Path.{_≡_, refl, sym, ap, _∙_}
-use lib.ListN.{length}
+use mathlib.Core.Path.{refl, sym, ap, _∙_}
 use lib.Seq.{length-take-le}
 use Rattle.esc_unit.specs.Unit.{refusing}
 use Rattle.unit_text.specs.Line.{recordLength}

@@ -1,8 +1,7 @@
 -- What was passed has no LF, and is held behind what was held before.
 use borrow.Author.Needs.{needs}
 use native.Mathlib.Omega.{arith}
-use mathlib.Core.Path.{_≡_}
-use Prim.Native.Nat.{_-_, _<_}
+use Prim.Native.Nat.{_-_}
 use lib.ListN.{length, take}
 use Rattle.unit_text.proofs.FirstLine.{Holding, holding-none, holding-more, holding-ended, holding-open}
 use Rattle.unit_text.proofs.cut.hold.Statement.{statement}
@@ -26,7 +25,7 @@ same-length c = search needs
 returns : tie.Need-returns Inv-loop μ-loop
 returns c =
     let l = c .before .before .before .loop in
-    holding-ended _ _ (l .passed) (l .n) (l .buffer) (l .inv) (omega arith) (c .if1 .taken)
+    holding-ended (l .inv) (omega arith) (c .if1 .taken)
 
 hold-one-requires : tie.Need-hold-one-requires Inv-loop μ-loop
 hold-one-requires c κs =
@@ -42,7 +41,7 @@ loop-less c = search needs
 loop-again : tie.Need-loop-again Inv-loop μ-loop
 loop-again c =
     let l = c .before .before .before .before .before .before .before .loop in
-    holding-more _ _ (l .passed) (l .n) (l .buffer) (l .inv) _ _ (omega arith) (c .before .before .before .before .if1 .left) (c .before .before .hold-one .ensures)
+    holding-more (l .inv) _ _ (omega arith) (c .before .before .before .before .if1 .left) (c .before .before .hold-one .ensures)
 
 same-length-2 : tie.Need-same-length-2 Inv-loop μ-loop
 same-length-2 c = search needs
@@ -50,7 +49,7 @@ same-length-2 c = search needs
 returns-2 : tie.Need-returns-2 Inv-loop μ-loop
 returns-2 c =
     let l = c .before .loop in
-    holding-open _ _ (l .passed) (l .n) (l .buffer) (l .inv) (omega arith)
+    holding-open (l .inv) (omega arith)
 
 pub hold-spec : {M : Type 1} → statement M
 hold-spec =

@@ -14,7 +14,7 @@ same-length : tie.Need-same-length
 same-length c = search needs
 
 returns : tie.Need-returns
-returns c = let h = c .before .before .before .hold in cut-open _ _ _ (c .before .before .before .before .before .before .before .before .args .bytes .now) (h .result) (h .ensures) (c .if1 .taken)
+returns c = let h = c .before .before .before .hold in cut-open (h .ensures) (c .before .before .before .before .before .before .before .before .args .bytes .now) (c .if1 .taken)
 
 slice-reshare-prefix-read-line : tie.Need-slice-reshare-prefix-read-line
 slice-reshare-prefix-read-line c = search needs
@@ -42,7 +42,7 @@ returns-2 : tie.Need-returns-2
 returns-2 c =
     let h = c .before .before .before .before .before .before .before .before .hold in
     let r = c .before .before .read-line in
-    cut-ended _ _ _ _ (h .result) (h .ensures) (r .result) (c .before .before .before .before .before .if1 .left) (r .ensures .0) (r .ensures .1)
+    cut-ended (h .ensures) _ (r .result) (c .before .before .before .before .before .if1 .left) (r .ensures .0) (r .ensures .1)
 
 pub next-line-spec : {M : Type 1} → statement M
 next-line-spec =

@@ -1,6 +1,5 @@
 -- It is copied or not.
 use borrow.Author.Needs.{needs}
-use mathlib.Core.Path.{_∙_, sym}
 use Rattle.unit_text.proofs.hand.copy_if.Statement.{statement}
 use Rattle.unit_text.proofs.hand.copy_if.Tie as tie
 

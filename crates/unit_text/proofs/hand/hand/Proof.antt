@@ -1,8 +1,8 @@
 -- The text is copied where it fits.
 use borrow.Author.Needs.{needs}
 use native.Mathlib.Omega.{arith}
-use mathlib.Core.Path.{_≡_, sym, ap, _∙_}
-use lib.ListN.{length, take}
+use mathlib.Core.Path.{sym, ap, _∙_}
+use lib.ListN.{take}
 use lib.Seq.{length-take-le}
 use Rattle.blheli_telemetry.specs.Reply.{accepted}
 use Rattle.unit_text.proofs.HandLaws.{fits-reply, fits-output, short-reply, short-output}

@@ -1,8 +1,8 @@
 -- What is written so far is the characters of the bytes passed.
 use borrow.Author.Needs.{needs}
 use native.Mathlib.Omega.{arith}
-use mathlib.Core.Path.{_≡_, refl, sym, _∙_}
-use Prim.Native.Nat.{ℕ, _+_, _*_, _≤_, _<_, _-_}
+use mathlib.Core.Path.{_≡_, refl}
+use Prim.Native.Nat.{_+_, _*_, _≤_, _-_}
 use lib.ListN.{length, take, length-set}
 use Rattle.blheli_telemetry.specs.BigEndian.{overwrite}
 use Rattle.unit_text.specs.Line.{hexOf}

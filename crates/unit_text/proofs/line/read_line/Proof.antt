@@ -1,8 +1,8 @@
 -- What is left of the line, behind the bytes put so far, says what the whole line does.
 use borrow.Author.Needs.{needs}
 use native.Mathlib.Omega.{arith}
-use mathlib.Core.Path.{_≡_, sym, _∙_}
-use Prim.Native.Nat.{_≤_, _<_, _-_}
+use mathlib.Core.Path.{sym}
+use Prim.Native.Nat.{_-_}
 use lib.ListN.{length}
 use Rattle.unit_text.proofs.LineLaws.{read-wide}
 use Rattle.unit_text.proofs.LineLeft.{Left, left-all, left-first, left-second, left-more, left-half, left-none}
@@ -44,18 +44,16 @@ same-length c = search needs
 
 returns-2 : tie.Need-returns-2 Inv-loop μ-loop
 returns-2 c =
-    let line = c .before .before .before .before .before .before .before .before .before .before .args .line .now in
     let l = c .before .before .before .before .before .before .loop in
-    (sym (left-first line (l .bytes) (l .place) (l .n) (l .inv) (omega arith) (omega (arith, c .before .before .before .value .ensures))), search needs)
+    (sym (left-first (l .inv) (omega arith) (omega (arith, c .before .before .before .value .ensures))), search needs)
 
 same-length-2 : tie.Need-same-length-2 Inv-loop μ-loop
 same-length-2 c = search needs
 
 returns-3 : tie.Need-returns-3 Inv-loop μ-loop
 returns-3 c =
-    let line = c .before .before .before .before .before .before .before .before .before .before .before .args .line .now in
     let l = c .before .before .before .before .before .before .before .loop in
-    (sym (left-second line (l .bytes) (l .place) (l .n) (l .inv) (omega arith) (omega (arith, c .before .before .before .before .value .ensures)) (omega (arith, c .before .before .value2 .ensures))), search needs)
+    (sym (left-second (l .inv) (omega arith) (omega (arith, c .before .before .before .before .value .ensures)) (omega (arith, c .before .before .value2 .ensures))), search needs)
 
 mul-bytes : tie.Need-mul-bytes Inv-loop μ-loop
 mul-bytes c = search needs
@@ -77,9 +75,8 @@ loop-less c = search needs
 
 loop-again : tie.Need-loop-again Inv-loop μ-loop
 loop-again c =
-    let line = c .before .before .before .before .before .before .before .before .before .before .before .args .line .now in
     let l = c .before .before .before .before .before .before .before .loop in
-    left-more line (l .bytes) (l .place) (l .n) (l .inv) (c .before .before .before .before .value .result) (c .before .before .value2 .result) (omega arith) (c .before .before .before .before .value .ensures) (omega arith) (c .before .before .value2 .ensures) (omega arith)
+    left-more (l .inv) (c .before .before .before .before .value .result) (c .before .before .value2 .result) (omega arith) (c .before .before .before .before .value .ensures) (omega arith) (c .before .before .value2 .ensures) (omega arith)
 
 shared-slice-read-value-3 : tie.Need-shared-slice-read-value-3 Inv-loop μ-loop
 shared-slice-read-value-3 c = search needs
@@ -92,27 +89,24 @@ same-length-3 c = search needs
 
 returns-4 : tie.Need-returns-4 Inv-loop μ-loop
 returns-4 c =
-    let line = c .before .before .before .before .before .before .before .before .before .args .line .now in
     let l = c .before .before .before .before .before .loop in
-    (sym (left-first line (l .bytes) (l .place) (l .n) (l .inv) (omega arith) (omega (arith, c .before .value3 .ensures))), search needs)
+    (sym (left-first (l .inv) (omega arith) (omega (arith, c .before .value3 .ensures))), search needs)
 
 same-length-4 : tie.Need-same-length-4 Inv-loop μ-loop
 same-length-4 c = search needs
 
 returns-5 : tie.Need-returns-5 Inv-loop μ-loop
 returns-5 c =
-    let line = c .before .before .before .before .before .before .before .before .before .args .line .now in
     let l = c .before .before .before .before .before .loop in
-    (sym (left-half line (l .bytes) (l .place) (l .n) (l .inv) (omega arith) (omega arith) (omega (arith, c .before .value3 .ensures))), search needs)
+    (sym (left-half (l .inv) (omega arith) (omega arith) (omega (arith, c .before .value3 .ensures))), search needs)
 
 same-length-5 : tie.Need-same-length-5 Inv-loop μ-loop
 same-length-5 c = search needs
 
 returns-6 : tie.Need-returns-6 Inv-loop μ-loop
 returns-6 c =
-    let line = c .before .before .before .before .before .before .args .line .now in
     let l = c .before .before .loop in
-    (sym (left-none line (l .bytes) (l .place) (l .n) (l .inv) (omega arith)), search needs)
+    (sym (left-none (l .inv) (omega arith)), search needs)
 
 pub read-line-spec : {M : Type 1} → statement M
 read-line-spec =

@@ -1,6 +1,5 @@
 -- The table's rule holds at every character.
 use borrow.Author.Needs.{needs}
-use Rattle.unit_text.specs.Digit.{digitOf}
 use Rattle.unit_text.proofs.line.value.Statement.{statement}
 use Rattle.unit_text.proofs.line.value.Tie as tie
 

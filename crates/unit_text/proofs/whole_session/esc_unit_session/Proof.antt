@@ -1,6 +1,6 @@
 -- The number and the count are those of `session`.
 use borrow.Author.Needs.{needs}
-use mathlib.Core.Path.{_≡_, sym, ap, _∙_}
+use mathlib.Core.Path.{sym, ap, _∙_}
 use Prim.Native.Nat.{ℕ}
 use Rattle.blheli_telemetry.specs.Reply.{Reply}
 use Rattle.unit_text.specs.Handed.{handed, numberOf, countAfter}

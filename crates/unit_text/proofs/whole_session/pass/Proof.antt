@@ -1,8 +1,8 @@
 -- What was passed over is the session so far; it is counted, and copied where it is to be.
 use borrow.Author.Needs.{needs}
 use native.Mathlib.Omega.{arith}
-use mathlib.Core.Path.{_≡_, sym, ap, _∙_}
-use Prim.Native.Nat.{_-_, _≤_, _<_}
+use mathlib.Core.Path.{sym, ap, _∙_}
+use Prim.Native.Nat.{_-_}
 use lib.ListN.{length}
 use Rattle.unit_text.specs.Streams.{streamed}
 use Rattle.unit_text.specs.Handed.{handed}
@@ -51,7 +51,7 @@ returns c =
     let f = c .before .before .feed in
     let fed = rw (part-left _ (l .used), l .inv .room) at (f .ensures .0) in
     let text = rw (part-left _ (l .used)) at (f .ensures .1) in
-    passing-short _ _ _ (c .before .before .before .before .before .before .before .before .before .before .pre) _ (l .piece) (l .out) (l .used) (l .written) (l .inv) _ (f .last .1 .1 .0) fed text (omega (arith, l .inv .long))
+    passing-short (l .inv) (c .before .before .before .before .before .before .before .before .before .before .pre) _ (f .last .1 .1 .0) fed text (omega (arith, l .inv .long))
 
 slice-aggregate-copy-if : tie.Need-slice-aggregate-copy-if Inv-loop μ-loop
 slice-aggregate-copy-if c = search needs
@@ -62,7 +62,7 @@ copy-if-requires c κs =
     let f = c .before .before .before .before .feed in
     let fed = rw (part-left _ (l .used), l .inv .room) at (f .ensures .0) in
     let text = rw (part-left _ (l .used)) at (f .ensures .1) in
-    (omega (arith, piece-fits _ _ _ (c .before .before .before .before .before .before .before .before .before .before .before .before .pre) _ (l .piece) (l .out) (l .used) (l .written) (l .inv) _ (f .last .1 .1 .0) fed text, f .kept .1 .1 .0, l .inv .room), omega (arith, l .inv .long, l .inv .fits, c .before .before .if1 .left))
+    (omega (arith, piece-fits (l .inv) (c .before .before .before .before .before .before .before .before .before .before .before .before .pre) _ (f .last .1 .1 .0) fed text, f .kept .1 .1 .0, l .inv .room), omega (arith, l .inv .long, l .inv .fits, c .before .before .if1 .left))
 
 add-used : tie.Need-add-used Inv-loop μ-loop
 add-used c =
@@ -70,7 +70,7 @@ add-used c =
     let f = c .before .before .before .before .before .before .before .before .before .feed in
     let fed = rw (part-left _ (l .used), l .inv .room) at (f .ensures .0) in
     let text = rw (part-left _ (l .used)) at (f .ensures .1) in
-    omega (arith, passing-within _ _ _ (c .before .before .before .before .before .before .before .before .before .before .before .before .before .before .before .before .before .pre) _ (l .piece) (l .out) (l .used) (l .written) (l .inv) _ (f .last .1 .1 .0) fed text, c .before .before .before .before .before .before .before .before .before .before .before .before .before .before .before .before .before .good)
+    omega (arith, passing-within (l .inv) (c .before .before .before .before .before .before .before .before .before .before .before .before .before .before .before .before .before .pre) _ (f .last .1 .1 .0) fed text, c .before .before .before .before .before .before .before .before .before .before .before .before .before .before .before .before .before .good)
 
 add-written : tie.Need-add-written Inv-loop μ-loop
 add-written c =
@@ -86,7 +86,7 @@ loop-less c =
     let f = c .before .before .before .before .before .before .before .before .before .feed in
     let fed = rw (part-left _ (l .used), l .inv .room) at (f .ensures .0) in
     let text = rw (part-left _ (l .used)) at (f .ensures .1) in
-    omega (arith, passing-within _ _ _ (c .before .before .before .before .before .before .before .before .before .before .before .before .before .before .before .before .before .pre) _ (l .piece) (l .out) (l .used) (l .written) (l .inv) _ (f .last .1 .1 .0) fed text, passing-some _ _ _ (c .before .before .before .before .before .before .before .before .before .before .before .before .before .before .before .before .before .pre) _ (l .piece) (l .out) (l .used) (l .written) (l .inv) _ (f .last .1 .1 .0) fed text (omega (arith, c .before .before .before .before .before .before .before .before .before .before .before .before .loop-test .taken)))
+    omega (arith, passing-within (l .inv) (c .before .before .before .before .before .before .before .before .before .before .before .before .before .before .before .before .before .pre) _ (f .last .1 .1 .0) fed text, passing-some (l .inv) (c .before .before .before .before .before .before .before .before .before .before .before .before .before .before .before .before .before .pre) _ (f .last .1 .1 .0) fed text (omega (arith, c .before .before .before .before .before .before .before .before .before .before .before .before .loop-test .taken)))
 
 loop-again : tie.Need-loop-again Inv-loop μ-loop
 loop-again c =
@@ -95,7 +95,7 @@ loop-again c =
     let fed = rw (part-left _ (l .used), l .inv .room) at (f .ensures .0) in
     let text = rw (part-left _ (l .used)) at (f .ensures .1) in
     let k = c .before .before .before .before .copy-if in
-    passing-more _ _ _ (c .before .before .before .before .before .before .before .before .before .before .before .before .before .before .before .before .before .pre) _ (l .piece) (l .out) (l .used) (l .written) (l .inv) _ (f .last .1 .1 .0) fed text _ (f .kept .1 .1 .0) (k .kept .1 .1 .1 .0) (omega (arith, l .inv .long, c .before .before .before .before .before .before .before .if1 .left)) (k .ensures)
+    passing-more (l .inv) (c .before .before .before .before .before .before .before .before .before .before .before .before .before .before .before .before .before .pre) _ (f .last .1 .1 .0) fed text _ (f .kept .1 .1 .0) (k .kept .1 .1 .1 .0) (omega (arith, l .inv .long, c .before .before .before .before .before .before .before .if1 .left)) (k .ensures)
 
 slice-aggregate-finish : tie.Need-slice-aggregate-finish Inv-loop μ-loop
 slice-aggregate-finish c = search needs
@@ -117,7 +117,7 @@ returns-2 c =
     let l = c .before .before .before .before .before .before .loop in
     let f = c .before .before .before .finish in
     let told = sym (ap handed (c .enum-told .given .1)) ∙ f .ensures .0 in
-    absurd (end-written _ _ _ (c .before .before .before .before .before .before .before .before .before .before .pre) _ (l .piece) (l .out) (l .used) (l .written) (l .inv) (omega (arith, c .before .before .before .before .before .loop-test .left)) told)
+    absurd (end-written (l .inv) (c .before .before .before .before .before .before .before .before .before .before .pre) (omega (arith, c .before .before .before .before .before .loop-test .left)) told)
 
 sub-if2 : tie.Need-sub-if2 Inv-loop μ-loop
 sub-if2 c = search needs
@@ -130,7 +130,7 @@ returns-3 c =
     let l = c .before .before .before .before .before .before .before .before .loop in
     let f = c .before .before .before .before .before .finish in
     let told = sym (ap handed (c .before .before .end .given .1)) ∙ f .ensures .0 in
-    passing-end-short _ _ _ (c .before .before .before .before .before .before .before .before .before .before .before .before .pre) _ (l .piece) (l .out) (l .used) (l .written) (l .inv) (omega (arith, c .before .before .before .before .before .before .before .loop-test .left)) _ (end-count _ _ _ (c .before .before .before .before .before .before .before .before .before .before .before .before .pre) _ (l .piece) (l .out) (l .used) (l .written) (l .inv) (omega (arith, c .before .before .before .before .before .before .before .loop-test .left)) _ told) (omega (arith, l .inv .long, c .if2 .taken))
+    passing-end-short (l .inv) (c .before .before .before .before .before .before .before .before .before .before .before .before .pre) (omega (arith, c .before .before .before .before .before .before .before .loop-test .left)) _ (end-count (l .inv) (c .before .before .before .before .before .before .before .before .before .before .before .before .pre) (omega (arith, c .before .before .before .before .before .before .before .loop-test .left)) _ told) (omega (arith, l .inv .long, c .if2 .taken))
 
 slice-aggregate-copy-if-2 : tie.Need-slice-aggregate-copy-if-2 Inv-loop μ-loop
 slice-aggregate-copy-if-2 c = search needs
@@ -140,7 +140,7 @@ copy-if-requires-2 c κs =
     let l = c .before .before .before .before .before .before .before .before .before .before .loop in
     let f = c .before .before .before .before .before .before .before .finish in
     let told = sym (ap handed (c .before .before .before .before .end .given .1)) ∙ f .ensures .0 in
-    (omega (arith, end-count _ _ _ (c .before .before .before .before .before .before .before .before .before .before .before .before .before .before .pre) _ (l .piece) (l .out) (l .used) (l .written) (l .inv) (omega (arith, c .before .before .before .before .before .before .before .before .before .loop-test .left)) _ told, end-length (streamed (l .stream)), f .kept .1 .0, l .inv .room), omega (arith, l .inv .long, l .inv .fits, c .before .before .if2 .left))
+    (omega (arith, end-count (l .inv) (c .before .before .before .before .before .before .before .before .before .before .before .before .before .before .pre) (omega (arith, c .before .before .before .before .before .before .before .before .before .loop-test .left)) _ told, end-length (streamed (l .stream)), f .kept .1 .0, l .inv .room), omega (arith, l .inv .long, l .inv .fits, c .before .before .if2 .left))
 
 add-t27 : tie.Need-add-t27 Inv-loop μ-loop
 add-t27 c =
@@ -156,7 +156,7 @@ returns-4 c =
     let f = c .before .before .before .before .before .before .before .before .before .before .finish in
     let told = sym (ap handed (c .before .before .before .before .before .before .before .end .given .1)) ∙ f .ensures .0 in
     let k = c .before .before .copy-if2 in
-    passing-end _ _ _ (c .before .before .before .before .before .before .before .before .before .before .before .before .before .before .before .before .before .pre) _ (l .piece) (l .out) (l .used) (l .written) (l .inv) (omega (arith, c .before .before .before .before .before .before .before .before .before .before .before .before .loop-test .left)) _ _ _ (end-count _ _ _ (c .before .before .before .before .before .before .before .before .before .before .before .before .before .before .before .before .before .pre) _ (l .piece) (l .out) (l .used) (l .written) (l .inv) (omega (arith, c .before .before .before .before .before .before .before .before .before .before .before .before .loop-test .left)) _ told) (omega (arith, l .inv .long, c .before .before .before .before .before .if2 .left)) (f .ensures .1) (k .ensures)
+    passing-end (l .inv) (c .before .before .before .before .before .before .before .before .before .before .before .before .before .before .before .before .before .pre) (omega (arith, c .before .before .before .before .before .before .before .before .before .before .before .before .loop-test .left)) _ _ _ (end-count (l .inv) (c .before .before .before .before .before .before .before .before .before .before .before .before .before .before .before .before .before .pre) (omega (arith, c .before .before .before .before .before .before .before .before .before .before .before .before .loop-test .left)) _ told) (omega (arith, l .inv .long, c .before .before .before .before .before .if2 .left)) (f .ensures .1) (k .ensures)
 
 pub pass-spec : {M : Type 1} → statement M
 pass-spec =

@@ -1,9 +1,8 @@
 -- The first pass tells whether the answers fit, and writes nothing; the second writes them.
 use borrow.Author.Needs.{needs}
 use native.Mathlib.Omega.{arith}
-use mathlib.Core.Path.{_≡_, sym, ap, _∙_}
+use mathlib.Core.Path.{sym, ap, _∙_}
 use mathlib.Core.Bool.{false≢true}
-use lib.ListN.{length}
 use Rattle.unit_text.specs.Session.{sessionText}
 use Rattle.unit_text.specs.Handed.{handed}
 use Rattle.unit_text.proofs.HandLaws.{fits-output, told-fits, told-space}

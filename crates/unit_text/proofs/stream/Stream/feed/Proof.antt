@@ -1,11 +1,9 @@
 -- Every turn cuts one line off the chunk and answers it.
 use borrow.Author.Needs.{needs}
 use native.Mathlib.Omega.{arith}
-use mathlib.Core.Path.{_≡_, sym, ap, _∙_}
-use Prim.Native.Nat.{_-_, _≤_, _<_}
+use mathlib.Core.Path.{_≡_, _∙_}
+use Prim.Native.Nat.{_-_}
 use lib.ListN.{length, take}
-use Rattle.unit_text.specs.Line.{recordLength}
-use Rattle.unit_text.specs.Cut.{CutFrom}
 use Rattle.unit_text.proofs.Feeding.{Feeding, feeding-none, held-line, part-left, fed-stop, fed-end, fed-open, feeding-line, goes-on}
 use Rattle.unit_text.proofs.stream.Stream.feed.Statement.{statement}
 use Rattle.unit_text.proofs.stream.Stream.feed.Tie as tie
@@ -38,7 +36,7 @@ same-length c = search needs
 returns : tie.Need-returns Inv-loop μ-loop
 returns c =
     let l = c .before .before .loop in
-    rw (held (c .before .before .before)) (fed-stop _ _ _ (l .unit) (l .line) (l .held) (l .bytes) (l .out) (l .used) (l .written) (l .inv) (omega arith))
+    rw (held (c .before .before .before)) (fed-stop (l .inv) (omega arith))
 
 sub-next-line : tie.Need-sub-next-line Inv-loop μ-loop
 sub-next-line c = search needs
@@ -69,7 +67,7 @@ returns-2 c =
     let l = c .before .before .before .before .before .before .before .before .before .before .before .before .loop in
     let k = c .before .before .before .before .before .next-line in
     let cut = rw (c .before .cut .given .1, part-left _ (l .used)) at (k .ensures) in
-    rw (held (c .before .before .before .before .before .before .before .before .before .before .before .before .before)) (fed-open _ _ _ (l .unit) (l .line) (l .held) (l .bytes) (l .out) (l .used) (l .written) (l .inv) (omega arith) _ _ (k .last .1 .1 .1 .1 .0) cut)
+    rw (held (c .before .before .before .before .before .before .before .before .before .before .before .before .before)) (fed-open (l .inv) (omega arith) _ _ (k .last .1 .1 .1 .1 .0) cut)
 
 enum-known-cut-2 : tie.Need-enum-known-cut-2 Inv-loop μ-loop
 enum-known-cut-2 c = search needs
@@ -89,14 +87,14 @@ add-used c =
     let l = c .before .before .before .before .before .before .before .before .before .before .before .before .before .before .before .before .before .before .loop in
     let k = c .before .before .before .before .before .before .before .before .before .before .before .next-line in
     let cut = rw (c .before .before .before .before .before .before .before .cut2 .given .1, part-left _ (l .used)) at (k .ensures) in
-    omega (arith, c .before .before .before .before .before .before .before .before .before .before .before .before .before .before .before .before .before .before .before .before .before .before .before .before .before .good, goes-on _ _ _ (l .unit) (l .line) (l .held) (l .bytes) (l .out) (l .used) (l .written) (l .inv) _ (cut .0) (cut .1))
+    omega (arith, c .before .before .before .before .before .before .before .before .before .before .before .before .before .before .before .before .before .before .before .before .before .before .before .before .before .good, goes-on (l .inv) _ (cut .0) (cut .1))
 
 loop-less : tie.Need-loop-less Inv-loop μ-loop
 loop-less c =
     let l = c .before .before .before .before .before .before .before .before .before .before .before .before .before .before .before .before .before .before .loop in
     let k = c .before .before .before .before .before .before .before .before .before .before .before .next-line in
     let cut = rw (c .before .before .before .before .before .before .before .cut2 .given .1, part-left _ (l .used)) at (k .ensures) in
-    omega (arith, cut .1, goes-on _ _ _ (l .unit) (l .line) (l .held) (l .bytes) (l .out) (l .used) (l .written) (l .inv) _ (cut .0) (cut .1))
+    omega (arith, cut .1, goes-on (l .inv) _ (cut .0) (cut .1))
 
 loop-again : tie.Need-loop-again Inv-loop μ-loop
 loop-again c =
@@ -104,7 +102,7 @@ loop-again c =
     let k = c .before .before .before .before .before .before .before .before .before .before .before .next-line in
     let a = c .before .before .before .answer in
     let cut = rw (c .before .before .before .before .before .before .before .cut2 .given .1, part-left _ (l .used)) at (k .ensures) in
-    feeding-line _ _ _ (l .unit) (l .line) (l .held) (l .bytes) (l .out) (l .used) (l .written) (l .inv) (omega (arith, l .inv .long, c .before .before .before .before .before .before .before .before .before .before .before .before .before .before .before .before .if1 .left)) (c .before .before .before .before .before .before .before .cut2 .given .0 .0) _ (k .last .1 .1 .0) (k .last .1 .1 .1 .1 .0) cut _ _ (a .ensures) (cut .4) (k .kept .1 .1 .1 .1 .0 ∙ l .inv .room) (a .kept .1 .1 .1 .0)
+    feeding-line (l .inv) (omega (arith, l .inv .long, c .before .before .before .before .before .before .before .before .before .before .before .before .before .before .before .before .if1 .left)) (c .before .before .before .before .before .before .before .cut2 .given .0 .0) _ (k .last .1 .1 .0) (k .last .1 .1 .1 .1 .0) cut _ _ (a .ensures) (cut .4) (k .kept .1 .1 .1 .1 .0 ∙ l .inv .room) (a .kept .1 .1 .1 .0)
 
 same-length-3 : tie.Need-same-length-3 Inv-loop μ-loop
 same-length-3 c = search needs
@@ -112,7 +110,7 @@ same-length-3 c = search needs
 returns-3 : tie.Need-returns-3 Inv-loop μ-loop
 returns-3 c =
     let l = c .before .loop in
-    rw (held (c .before .before)) (fed-end _ _ _ (l .unit) (l .line) (l .held) (l .bytes) (l .out) (l .used) (l .written) (l .inv) (omega arith))
+    rw (held (c .before .before)) (fed-end (l .inv) (omega arith))
 
 pub feed-spec : {M : Type 1} → statement M
 feed-spec =

@@ -1,10 +1,10 @@
 -- A line that was begun is answered as at an LF.
 use borrow.Author.Needs.{needs}
 use native.Mathlib.Omega.{arith}
-use mathlib.Core.Path.{_≡_, refl, sym, ap, _∙_}
+use mathlib.Core.Path.{_≡_, refl, ap, _∙_}
 use mathlib.Core.List.{List}
 use Prim.Native.Nat.{ℕ}
-use lib.ListN.{length, take, length-take}
+use lib.ListN.{length, length-take}
 use Rattle.unit_text.specs.Session.{handedReply, handedOutput}
 use Rattle.unit_text.proofs.FedLaws.{fed-fits}
 use Rattle.unit_text.proofs.FinishLaws.{finish-none, finish-some}
