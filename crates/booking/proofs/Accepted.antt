@@ -1,7 +1,6 @@
 -- An accepted reply to a call after a list is the rule's answer to its record, and it is the 00's where nothing was opened.
-use mathlib.Core.Path.{_≡_, refl, sym, _∙_, ap}
+use mathlib.Core.Path.{_≡_, sym, _∙_, ap}
 use mathlib.Core.List.{List}
-use mathlib.Core.Option.{Option, none, some}
 use mathlib.Core.Bool.{Bool, true, false, false≢true}
 use Prim.Native.Nat.{ℕ}
 use lib.Dec.{leb}
@@ -12,7 +11,7 @@ use Rattle.esc_unit.specs.Record.{readRecord}
 use Rattle.esc_unit.specs.Answer.{answerBytes}
 use Rattle.esc_unit.specs.declared.record.Record.{Record}
 use Rattle.esc_unit.specs.declared.answer.Answer.{Answer}
-use Rattle.booking.specs.History.{Since, since, Call}
+use Rattle.booking.specs.History.{since, Call}
 use Rattle.booking.specs.Rule.{replyTo, withRoom, replyOn, ruleFor}
 use Rattle.booking.specs.Run.{run}
 use Rattle.booking.specs.Claims.{replyAfter}

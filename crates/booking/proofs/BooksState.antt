@@ -2,7 +2,7 @@
 use mathlib.Core.Path.{_≡_, refl, sym, _∙_, ap, fun-ext}
 use mathlib.Core.List.{List, [], _∷_}
 use mathlib.Core.Option.{Option, none, some, Option·none-ne-some}
-use mathlib.Core.Bool.{Bool, true, false, not}
+use mathlib.Core.Bool.{Bool, true, false}
 use Prim.Native.Nat.{ℕ, suc, _+_, _-_, _^_, min, max}
 use native.Mathlib.Omega.{arith}
 use lib.Dec.{eqb}
@@ -11,7 +11,6 @@ use borrow.Author.Tests.{ne-eqb, eqb-true}
 use Rattle.blheli_telemetry.specs.Choice.{pick}
 use Rattle.esc_feedback.specs.Output.{laneOf, laneNumber}
 use Rattle.esc_feedback.specs.Samples.{slotOf, noSamples, storedIn, sampleAt}
-use Rattle.esc_feedback.specs.Idle.{newIdle}
 use Rattle.esc_feedback.specs.declared.output.Lane.{Lane}
 use Rattle.esc_feedback.specs.declared.output.EscOutput.{EscOutput}
 use Rattle.esc_feedback.specs.declared.request.EscTelemetryUpdate.{EscTelemetryUpdate}
@@ -21,20 +20,16 @@ use Rattle.esc_feedback.specs.declared.samples.Slot.{Slot}
 use Rattle.esc_feedback.specs.declared.samples.EscSamples.{EscSamples}
 use Rattle.esc_unit.specs.Figures.{noFigure, withSample, figureAt, figuresWith}
 use Rattle.esc_unit.specs.Books.{noBooks, checkedBy, samplesDropped, bookedIn, idleStatus, sampleOf, storedAt}
-use Rattle.esc_unit.specs.declared.figures.Figure.{Figure}
 use Rattle.esc_unit.specs.declared.figures.Figures.{Figures}
-use Rattle.esc_unit.specs.declared.answer.IdleAnswer.{IdleAnswer}
-use Rattle.esc_unit.specs.declared.answer.StoredAnswer.{StoredAnswer}
 use Rattle.esc_unit.specs.declared.answer.StoredAnswer.the-variants as storedAnswer
 use Rattle.esc_unit.specs.declared.books.Books.{Books}
 use Rattle.esc_unit.specs.declared.books.Booked.{Booked}
-use Rattle.booking.specs.Maybe.{is, onlyIf}
-use Rattle.booking.specs.History.{Check, Idle, Seen, Past}
+use Rattle.booking.specs.History.{Check, Seen, Past}
 use Rattle.booking.specs.IdleRule.{judged}
 use Rattle.booking.specs.Samples.{stored, given, hottest, lowest, figureOf}
 use Rattle.booking.specs.Rule.{storedAnswerOf}
 use Rattle.booking.proofs.Lanes.{four, at-four, set-four, change-kept, lane-eq}
-use Rattle.booking.proofs.IdleState.{IdleAt, asks, asked, status-is, idle-same, idle-new, idle-none, idle-unasked, unasked-is}
+use Rattle.booking.proofs.IdleState.{IdleAt, asked, status-is, idle-same, idle-new, idle-none, idle-unasked, unasked-is}
 
 abbrev heldOf : Option EscTelemetryUpdate → StoredObservation
 heldOf none = held.None

@@ -2,13 +2,12 @@
 use mathlib.Core.Path.{_≡_, refl}
 use mathlib.Core.Bool.{true, false}
 use mathlib.Core.List.{List, [], _∷_, _++_, map, reverse}
-use mathlib.Core.Option.{Option, none, some}
+use mathlib.Core.Option.{none, some}
 use Prim.Native.Nat.{ℕ}
 use lib.ListN.{replicate}
 use Rattle.blheli_telemetry.specs.Crc.{crcBit, crcBits, crcByte, crcFrom, crcOf}
 use Rattle.blheli_telemetry.proofs.Cases.{FrameCases, frame-cases}
 use Rattle.esc_feedback.specs.Due.{due}
-use Rattle.esc_feedback.specs.declared.output.Lane.{Lane}
 use Rattle.esc_feedback.specs.declared.output.Lane.the-variants.{Output1}
 use Rattle.esc_feedback.specs.declared.request.EscTelemetryUpdate.{EscTelemetryUpdate}
 use Rattle.esc_feedback.specs.declared.idle_config.EscIdleQualificationConfig.{EscIdleQualificationConfig}
@@ -18,7 +17,6 @@ use Rattle.esc_feedback.specs.declared.idle_verdict.EscIdleQualificationStatus.
 use Rattle.esc_feedback.proofs.Cases.{DueCases, due-cases}
 use Rattle.esc_feedback.proofs.IdleCases.{IdleCases, idle-cases}
 use Rattle.airframe.proofs.Cases.{SpeedCases, speed-cases}
-use Rattle.booking.specs.History.{Check}
 use Rattle.booking.specs.Wire.{OnWire, byte, latest, frameAt}
 use Rattle.booking.specs.IdleRule.{expired, judgedAt}
 

@@ -1,11 +1,10 @@
 -- A request is granted where none is open, and a sample or a timeout ends the one that is: so the counts balance.
-use mathlib.Core.Path.{_≡_, refl, sym, _∙_, ap, subst}
-use mathlib.Core.List.{List, [], _∷_}
+use mathlib.Core.Path.{_≡_, refl, sym, _∙_, ap}
+use mathlib.Core.List.{[], _∷_}
 use mathlib.Core.Option.{Option, none, some, Option·none-ne-some}
-use mathlib.Core.Bool.{Bool, true, false, not, _&&_, true≢false}
+use mathlib.Core.Bool.{Bool, true, false, true≢false}
 use Prim.Native.Nat.{ℕ, _+_}
 use native.Mathlib.Omega.{arith}
-use Rattle.blheli_telemetry.specs.Choice.{pick}
 use Rattle.esc_feedback.specs.declared.request.EscActuatorRequest.{EscActuatorRequest}
 use Rattle.esc_feedback.specs.declared.request.EscActuatorAck.{EscActuatorAck}
 use Rattle.esc_feedback.specs.declared.request.EscTelemetryUpdate.{EscTelemetryUpdate}
@@ -16,10 +15,10 @@ use Rattle.esc_unit.specs.declared.record.Record.{Record}
 use Rattle.esc_unit.specs.declared.record.Record.the-variants as kind
 use Rattle.esc_unit.specs.declared.answer.IdleAnswer.{IdleAnswer}
 use Rattle.esc_unit.specs.declared.answer.Answer.the-variants as answer
-use Rattle.booking.specs.Maybe.{is, onlyIf}
-use Rattle.booking.specs.History.{Opening, Timed, Past, Since, since, seen, Call}
+use Rattle.booking.specs.Maybe.{is}
+use Rattle.booking.specs.History.{Opening, Timed, Past, Since, since, seen}
 use Rattle.booking.specs.Wire.{Frame, wire, frameAt, timed}
-use Rattle.booking.specs.Booking.{onlyThe, bookedTo, openRequest, startedAt, latestFrame, newlyStarted, startedRequest}
+use Rattle.booking.specs.Booking.{onlyThe, bookedTo, openRequest, latestFrame, newlyStarted, startedRequest}
 use Rattle.booking.specs.Faults.{expired, expiryOf, faulted}
 use Rattle.booking.specs.Turns.{existing, names}
 use Rattle.booking.specs.Counts.{one, count, queued, delivered, ackTimeout, responseTimeout}

@@ -1,13 +1,12 @@
 -- The unit's parser is the one that belongs to the wire; and the latest bytes of a wire do not reach behind a cut.
 use mathlib.Core.Path.{_≡_, refl, sym, _∙_, ap, subst}
 use mathlib.Core.List.{List, [], _∷_, _++_}
-use mathlib.Core.Option.{Option, none, some}
+use mathlib.Core.Option.{Option}
 use Prim.Native.Nat.{ℕ, zero, suc}
 use Rattle.blheli_telemetry.specs.Parser.{pushOf}
-use Rattle.blheli_telemetry.specs.declared.parser.StreamParser.{StreamParser}
 use Rattle.esc_unit.specs.declared.unit.Unit.{Unit}
-use Rattle.booking.specs.History.{Since, since, Call}
-use Rattle.booking.specs.Wire.{OnWire, byte, cut, checked, oneMore, wire, latest, frameAt, parsed}
+use Rattle.booking.specs.History.{Since}
+use Rattle.booking.specs.Wire.{OnWire, byte, cut, checked, latest, frameAt, parsed}
 use Rattle.booking.specs.Run.{run}
 use Rattle.booking.specs.Claims.{FrameEnds, FramedAlike}
 use Rattle.booking.proofs.ManagerState.{given-at}

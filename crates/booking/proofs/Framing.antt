@@ -1,9 +1,9 @@
 -- The parser gives a sample exactly at the frame ends: what it holds are the latest bytes since the latest cut or frame end.
-use mathlib.Core.Path.{_≡_, refl, sym, _∙_, ap}
+use mathlib.Core.Path.{_≡_, refl, sym, _∙_}
 use mathlib.Core.List.{List, [], _∷_, _++_}
 use mathlib.Core.Option.{Option, none, some}
 use mathlib.Core.Bool.{Bool, true, false, not, _&&_}
-use Prim.Native.Nat.{ℕ, zero, suc, _+_, _-_, _≤_, _<_, _^_, min}
+use Prim.Native.Nat.{ℕ, zero, suc, _+_, _-_, _≤_, _<_}
 use native.Mathlib.Omega.{arith}
 use lib.ListN.{length, drop, length-append, length-drop}
 use lib.Seq.{drop-append-le, drop-drop, drop-length}
@@ -11,16 +11,13 @@ use lib.Dec.{eqb, leb}
 use borrow.Author.Tests.{le-leb, lt-leb, eqb-true, eqb-false}
 use Rattle.blheli_telemetry.specs.Choice.{pick}
 use Rattle.blheli_telemetry.specs.Crc.{crcOf}
-use Rattle.blheli_telemetry.specs.Frame.{telemetryOf}
 use Rattle.blheli_telemetry.specs.Parser.{saturated}
 use Rattle.blheli_telemetry.specs.Stream.{givenAfter, heldAfter, countedAfter}
-use Rattle.blheli_telemetry.specs.declared.parser.Parsed.{Parsed}
-use Rattle.blheli_telemetry.specs.declared.parser.Parsed.the-variants.{Sample, Nothing}
 use Rattle.blheli_telemetry.specs.declared.parser.ParserStats.{ParserStats}
 use Rattle.blheli_telemetry.proofs.ByCases.{below-or-not}
 use Rattle.blheli_telemetry.proofs.StreamLaws.{few-held, frame-end, wrong-check}
 use Rattle.booking.specs.Maybe.{is}
-use Rattle.booking.specs.Wire.{OnWire, byte, cut, checked, oneMore, latest, frameAt, parsed}
+use Rattle.booking.specs.Wire.{OnWire, byte, cut, oneMore, latest, frameAt, parsed}
 
 -- the last n of a list, if it has so many
 unfoldable pub lastOf : ℕ → List ℕ → Option (List ℕ)

@@ -2,17 +2,16 @@
 use mathlib.Core.Path.{_≡_, refl, sym, _∙_, ap, subst}
 use mathlib.Core.List.{List, [], _∷_}
 use mathlib.Core.Option.{Option, none, some, Option·none-ne-some}
-use mathlib.Core.Bool.{Bool, true, false, not, _&&_}
-use Prim.Native.Nat.{ℕ, suc, _+_, _-_, _^_, min}
+use mathlib.Core.Bool.{Bool, true, false, _&&_}
+use Prim.Native.Nat.{ℕ, suc, _+_, _-_, min}
 use native.Mathlib.Omega.{arith}
-use lib.Dec.{eqb, leb, ltb}
-use lib.ListN.{length, getD, set}
+use lib.Dec.{leb, ltb}
+use lib.ListN.{length}
 use Rattle.blheli_telemetry.specs.Choice.{pick}
 use Rattle.esc_feedback.specs.Due.{due}
-use Rattle.esc_feedback.specs.Output.{laneOf, laneNumber}
 use Rattle.esc_feedback.specs.IdleConfig.{validSettings}
 use Rattle.esc_feedback.specs.IdleLane.{clearLane, countLane, expired as unitExpired, expireLane, expireLanes, everyEnough}
-use Rattle.esc_feedback.specs.Idle.{newIdle, answered, decided, freshAt, weighed as unitWeighed, statusOf, sampled, measured, observeOf, unlessTerminal}
+use Rattle.esc_feedback.specs.Idle.{newIdle, answered, decided, freshAt, weighed as unitWeighed, statusOf, sampled, measured, observeOf}
 use Rattle.esc_feedback.specs.declared.output.Lane.{Lane}
 use Rattle.esc_feedback.specs.declared.output.Lane.the-variants.{Output1, Output2, Output3, Output4}
 use Rattle.esc_feedback.specs.declared.request.EscTelemetryUpdate.{EscTelemetryUpdate}
@@ -27,11 +26,10 @@ use Rattle.esc_feedback.specs.declared.idle_verdict.Terminal.{Terminal}
 use Rattle.esc_feedback.specs.declared.idle_verdict.Terminal.the-variants as terminal
 use Rattle.esc_feedback.specs.declared.idle.EscIdleQualification.{EscIdleQualification}
 use Rattle.esc_feedback.specs.declared.idle.EscIdleJudged.{EscIdleJudged}
-use Rattle.esc_unit.specs.declared.answer.IdleAnswer.{IdleAnswer}
 use Rattle.esc_unit.specs.declared.answer.IdleAnswer.the-variants.{NoCheck, Status}
-use Rattle.booking.specs.Maybe.{is, earliest, onlyIf}
-use Rattle.booking.specs.History.{Check, Idle, Seen, Past}
-use Rattle.booking.specs.IdleRule.{check, verdictIn, verdict, valid, erpm, expired, pastGrace, fresh, joined, runAt, run, tally, weighed, settled, judgedAt, judgedBy, judged}
+use Rattle.booking.specs.Maybe.{earliest}
+use Rattle.booking.specs.History.{Check, Seen, Past}
+use Rattle.booking.specs.IdleRule.{check, verdictIn, verdict, valid, erpm, expired, pastGrace, fresh, joined, runAt, run, tally, settled, judgedAt, judged}
 use Rattle.booking.proofs.Lanes.{four, change-kept}
 
 abbrev newestOf : List EscTelemetryUpdate → Newest

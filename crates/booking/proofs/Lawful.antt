@@ -1,8 +1,8 @@
 -- What the rule makes of a list since its opening: each event is a record with the rule's answer to it.
 use mathlib.Core.Path.{_≡_, refl, sym, _∙_, ap, subst}
 use mathlib.Core.List.{List, [], _∷_}
-use mathlib.Core.Option.{Option, none, some, Option·none-ne-some}
-use mathlib.Core.Bool.{Bool, true, false, true≢false, false≢true}
+use mathlib.Core.Option.{Option, none, some}
+use mathlib.Core.Bool.{Bool, true, false}
 use Prim.Native.Nat.{ℕ}
 use lib.Dec.{leb}
 use lib.ListN.{length}
@@ -14,7 +14,7 @@ use Rattle.esc_unit.specs.Unit.{opens}
 use Rattle.esc_unit.specs.declared.record.Record.{Record}
 use Rattle.esc_unit.specs.declared.record.Record.the-variants as kind
 use Rattle.esc_unit.specs.declared.answer.Answer.{Answer}
-use Rattle.booking.specs.History.{Opening, Seen, seen, Past, Since, then, sinceEvent, since, Call, History}
+use Rattle.booking.specs.History.{Opening, seen, Past, Since, then, sinceEvent, since, Call, History}
 use Rattle.booking.specs.Rule.{answerTo, replyTo, withRoom, replyOn, ruleFor, traceOf}
 use Rattle.booking.specs.Run.{run}
 use Rattle.booking.proofs.Traced.{traced}

@@ -16,6 +16,7 @@ pub mod FramedAlike
 pub mod ReportCounts
 pub mod Conserved
 pub mod Live
+pub mod FramedLive
 pub mod Asked
 pub mod Counted
 pub mod Sound

@@ -1,6 +1,7 @@
--- A list on which the claims say something: four deliveries, a held frame that is replaced, both timeouts, noise while faulted, two recoveries.
+-- A list on which the claims say something: four deliveries, a held frame that is replaced, a 03 too many, both timeouts, noise while
+-- faulted, two recoveries.
 use mathlib.Core.Path.{_≡_, refl}
-use mathlib.Core.List.{List, [], _∷_, _++_, map, reverse}
+use mathlib.Core.List.{List, [], _∷_, _++_, map}
 use mathlib.Core.Bool.{true}
 use mathlib.Core.Option.{Option, none, some}
 use Prim.Native.Nat.{ℕ, _+_}
@@ -12,23 +13,24 @@ use Rattle.blheli_telemetry.specs.Frame.{telemetryOf, payloadOf}
 use Rattle.esc_feedback.specs.Due.{due}
 use Rattle.esc_feedback.specs.Output.{laneOf}
 use Rattle.esc_feedback.specs.declared.request.EscTelemetryUpdate.{EscTelemetryUpdate}
+use Rattle.esc_feedback.specs.declared.stats.EscManagerStats.{EscManagerStats}
 use Rattle.esc_unit.specs.Record.{recordOf, readRecord}
 use Rattle.esc_unit.specs.Answer.{requestBytes, sampleBytes, deliveredBytes, failureBytes, idleBytes, nextBytes, ackBytes, wireBytes, timeoutBytes, bodyBytes, answerBytes}
 use Rattle.esc_unit.specs.declared.answer.Answer.{Answer}
 use Rattle.booking.specs.Maybe.{is}
-use Rattle.booking.specs.History.{Past, Call, Event, History, saidBy, updateIn, since}
+use Rattle.booking.specs.History.{Past, History, saidBy, updateIn, since}
 use Rattle.booking.specs.Wire.{wire, latest, frameAt}
 use Rattle.booking.specs.Booking.{openRequest, startedAt, latestFrame, newlyStarted, startedRequest}
 use Rattle.booking.specs.Faults.{faulted, quietSince, retries, expired, recovers, note}
 use Rattle.booking.specs.Turns.{turn, lastQueued, existing}
 use Rattle.booking.specs.IdleRule.{check, verdict, run, judged}
-use Rattle.booking.specs.Counts.{one, count, queued, delivered, ackTimeout, responseTimeout}
+use Rattle.booking.specs.Counts.{count, queued, delivered, ackTimeout, responseTimeout, renewed, reportOf}
 use Rattle.booking.specs.Rule.{ruleFor, traceOf}
 use Rattle.booking.specs.Claims.{pastOf}
 use Rattle.booking.proofs.Session.{roomy}
 
 -- records
-abbrev open′ : List ℕ
+abbrev pub open′ : List ℕ
 open′ = 0x00 ∷ (bytesOf 4 0 ++ (bytesOf 4 0 ++ (bytesOf 4 20 ++ (bytesOf 4 100 ++ (bytesOf 4 500 ++ bytesOf 8 0)))))
 
 abbrev queue : ℕ → ℕ → ℕ → List ℕ
@@ -40,7 +42,7 @@ acknowledge s l started t = 0x03 ∷ (bytesOf 4 s ++ l ∷ (bytesOf 8 started ++
 abbrev poll : ℕ → List ℕ
 poll t = 0x04 ∷ bytesOf 8 t
 
-abbrev byte : ℕ → ℕ → List ℕ
+abbrev pub byte : ℕ → ℕ → List ℕ
 byte t b = 0x05 ∷ b ∷ bytesOf 8 t
 
 abbrev recover : ℕ → List ℕ
@@ -54,8 +56,8 @@ abbrev flight : List (List ℕ)
 flight =
     -- frame after the acknowledgement
     open′ ∷ queue 0 0 1 ∷ acknowledge 0 0 1 1 ∷ frame 2 60
-    -- two frames before it: the later is delivered, with its own time
-    ++ (queue 1 1 3 ∷ frame 4 61 ++ (frame 5 62 ++ (acknowledge 1 1 6 6 ∷ []
+    -- the same acknowledgement once more; two frames before the next: the later is delivered, with its own time
+    ++ (acknowledge 0 0 1 2 ∷ queue 1 1 3 ∷ frame 4 61 ++ (frame 5 62 ++ (acknowledge 1 1 6 6 ∷ []
     -- no acknowledgement; noise while faulted moves the quiet start to 30
     ++ (queue 2 2 7 ∷ poll 27 ∷ byte 30 0xaa ∷ recover 529 ∷ recover 530
     -- no frame
@@ -98,10 +100,22 @@ pub deliveries : readings (traceOf [] (map roomy flight)) ≡ booked′ 0 0 2 60
 unfolding numberAt bytesOf crcBit crcBits crcByte crcFrom crcOf telemetryOf payloadOf due recordOf readRecord requestBytes sampleBytes deliveredBytes failureBytes idleBytes nextBytes ackBytes wireBytes timeoutBytes bodyBytes answerBytes since wire latest frameAt openRequest startedAt latestFrame newlyStarted startedRequest faulted quietSince retries expired recovers note turn lastQueued existing check verdict run judged ruleFor traceOf
 deliveries = refl
 
+-- what of a list of records is accepted, by the rule
+abbrev pub pastBy : List (List ℕ) → Past
+pastBy records = pastOf (since (traceOf [] (map roomy records)))
+
 abbrev past : Past
-past = pastOf (since (traceOf [] (map roomy flight)))
+past = pastBy flight
 
 -- seven queued: four delivered, a timeout of each kind, and one open
 pub balance : (count queued past ≡ 7) × (count delivered past ≡ 4) × (count ackTimeout past ≡ 1) × (count responseTimeout past ≡ 1) × (is (openRequest past) ≡ true)
 unfolding numberAt bytesOf crcBit crcBits crcByte crcFrom crcOf telemetryOf payloadOf due recordOf readRecord requestBytes sampleBytes deliveredBytes failureBytes idleBytes nextBytes ackBytes wireBytes timeoutBytes bodyBytes answerBytes since wire latest frameAt openRequest startedAt latestFrame newlyStarted startedRequest faulted quietSince retries expired recovers note turn lastQueued existing check verdict run judged ruleFor traceOf count
 balance = (refl, refl, refl, refl, refl)
+
+-- what a 0c then reports: five 03s taken, one of them with a sample, and one rejected
+abbrev stats : EscManagerStats
+stats = reportOf past .stats
+
+pub report : (stats .«requests_queued» ≡ 7) × (stats .«requests_started» ≡ 5) × (stats .«actuator_ack_timeouts» ≡ 1) × (stats .«telemetry_response_timeouts» ≡ 1) × (stats .«mismatched_acks» ≡ 1) × (stats .recoveries ≡ 2)
+unfolding numberAt bytesOf crcBit crcBits crcByte crcFrom crcOf telemetryOf payloadOf due recordOf readRecord requestBytes sampleBytes deliveredBytes failureBytes idleBytes nextBytes ackBytes wireBytes timeoutBytes bodyBytes answerBytes since wire latest frameAt openRequest startedAt latestFrame newlyStarted startedRequest faulted quietSince retries expired recovers note turn lastQueued existing check verdict run judged ruleFor traceOf count renewed reportOf
+report = (refl, refl, refl, refl, refl, refl)

@@ -1,8 +1,8 @@
 -- The manager's state as a function of the history: all of it but the bytes in the parser's array.
-use mathlib.Core.Path.{_≡_, refl, sym, _∙_, ap}
+use mathlib.Core.Path.{_≡_, refl, sym, _∙_}
 use mathlib.Core.List.{List, [], _∷_}
 use mathlib.Core.Option.{Option, none, some}
-use mathlib.Core.Bool.{Bool, true, false, not, _&&_}
+use mathlib.Core.Bool.{Bool, true, false, _&&_}
 use Prim.Native.Nat.{ℕ, max}
 use lib.Dec.{eqb}
 use lib.ListN.{length}
@@ -32,14 +32,14 @@ use Rattle.esc_feedback.specs.declared.line.PendingRequest.the-variants as pend
 use Rattle.esc_feedback.specs.declared.line.Line.{Line}
 use Rattle.esc_feedback.specs.declared.manager.EscManager.{EscManager}
 use Rattle.booking.specs.Maybe.{is}
-use Rattle.booking.specs.History.{Opening, Timed, Byte, Requests, Wire, Idle, Seen, Past}
-use Rattle.booking.specs.Wire.{Frame, timed, wire, latest, frameAt, parsed}
+use Rattle.booking.specs.History.{Opening, Timed, Requests, Wire, Idle, Seen, Past}
+use Rattle.booking.specs.Wire.{Frame, timed, wire, frameAt, parsed}
 use Rattle.booking.specs.Booking.{equal, booked, openRequest, startedAt, latestFrame}
 use Rattle.booking.specs.Faults.{faulted, quietSince, retries, note}
 use Rattle.booking.specs.Turns.{turn, lastQueued}
 use Rattle.booking.specs.Counts.{queued, started, ackTimeout, responseTimeout, mismatched, unsolicited, recovered, framed, wrong, renewed}
 use Rattle.booking.specs.Rule.{noteAnswer}
-use Rattle.booking.proofs.Framing.{Holds, holds-nothing, after-cut, byted, statsWith}
+use Rattle.booking.proofs.Framing.{Holds, holds-nothing, after-cut, byted}
 use Rattle.booking.proofs.Tallies.{wrapping, saturating}
 
 abbrev pub lastAt : Option ℕ → LastRequest

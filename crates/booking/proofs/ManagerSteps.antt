@@ -1,24 +1,23 @@
 -- Each call of the manager, at the state that belongs to a history: its answer is the rule's, and it leaves the state of the history with the call.
-use mathlib.Core.Path.{_≡_, refl, sym, _∙_, ap}
-use mathlib.Core.List.{List, [], _∷_}
+use mathlib.Core.Path.{_≡_, refl, _∙_, ap}
+use mathlib.Core.List.{List, _∷_}
 use mathlib.Core.Option.{Option, none, some}
-use mathlib.Core.Bool.{Bool, true, false, not, _&&_, true≢false, false≢true}
+use mathlib.Core.Bool.{Bool, true, false, not, _&&_, false≢true}
 use Prim.Native.Nat.{ℕ}
 use lib.Dec.{eqb}
-use lib.ListN.{getD}
 use borrow.Author.Tests.{eqb-true}
 use Rattle.blheli_telemetry.specs.Choice.{pick}
 use Rattle.blheli_telemetry.specs.Parser.{pushOf, resetOf}
 use Rattle.blheli_telemetry.specs.declared.parser.StreamParser.{StreamParser}
 use Rattle.esc_feedback.specs.Due.{due}
-use Rattle.esc_feedback.specs.Output.{laneNumber, laneOf, laneAfter}
+use Rattle.esc_feedback.specs.Output.{laneOf, laneAfter}
 use Rattle.esc_feedback.specs.Line.{isOpen}
 use Rattle.esc_feedback.specs.Turn.{periodDue}
 use Rattle.esc_feedback.specs.declared.output.Lane.{Lane}
 use Rattle.esc_feedback.specs.declared.output.Lane.the-variants.{Output1, Output2, Output3, Output4}
 use Rattle.esc_feedback.specs.declared.answer.NextRequest.the-variants as next
 use Rattle.esc_feedback.specs.Fault.{quietWindow, mayRecover}
-use Rattle.esc_feedback.specs.Manager.{managerOf, noted, delivered, takeBack}
+use Rattle.esc_feedback.specs.Manager.{delivered, takeBack}
 use Rattle.esc_feedback.specs.Queueing.{requestExists, nextRequest, markQueued}
 use Rattle.esc_feedback.specs.Ack.{ackOn, onAck}
 use Rattle.esc_feedback.specs.Timeout.{polledOn, pollTimeout}
@@ -35,8 +34,8 @@ use Rattle.esc_feedback.specs.declared.answer.WireUpdate.{WireUpdate}
 use Rattle.esc_feedback.specs.declared.answer.WireUpdate.the-variants as update
 use Rattle.esc_feedback.specs.declared.manager.EscManager.{EscManager}
 use Rattle.booking.specs.Maybe.{is, earliest, onlyIf}
-use Rattle.booking.specs.History.{Opening, Timed, Requests, Wire, Idle, Seen, Past}
-use Rattle.booking.specs.Wire.{Frame, timed, wire, latest, frameAt, parsed}
+use Rattle.booking.specs.History.{Opening, Timed, Requests, Wire, Idle, Past}
+use Rattle.booking.specs.Wire.{Frame, timed, wire, frameAt}
 use Rattle.booking.specs.Booking.{equal, booked, bookedTo, openRequest, startedAt, latestFrame, newlyStarted, startedRequest}
 use Rattle.booking.specs.Faults.{faulted, quietSince, retries, note, expired, recovers}
 use Rattle.booking.specs.Turns.{following, turn, lastQueued, dueSince, existing, names}

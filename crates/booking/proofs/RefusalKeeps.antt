@@ -1,8 +1,6 @@
 -- Each refusal hands back the unit that it was given.
-use mathlib.Core.Path.{_≡_, refl, sym, _∙_, ap, subst}
-use mathlib.Core.List.{List, [], _∷_, _++_}
-use mathlib.Core.Option.{Option}
-use mathlib.Core.Bool.{Bool, true, false, not, _&&_, true≢false, false≢true}
+use mathlib.Core.Path.{_≡_, refl, sym}
+use mathlib.Core.Bool.{Bool, true, false}
 use Prim.Native.Nat.{ℕ}
 use lib.Dec.{leb}
 use lib.ListN.{length}
@@ -10,7 +8,7 @@ use Rattle.blheli_telemetry.specs.Choice.{pick}
 use Rattle.blheli_telemetry.specs.Reply.{Reply, accepted, refused}
 use Rattle.esc_unit.specs.Record.{readRecord}
 use Rattle.esc_unit.specs.Answer.{answerBytes}
-use Rattle.esc_unit.specs.Unit.{stepOf, opens, Replied, refusing, accepting, enter, ifRoom, callOn, callOf, outputAfter}
+use Rattle.esc_unit.specs.Unit.{stepOf, opens, refusing, accepting, enter, ifRoom, callOn, callOf, outputAfter}
 use Rattle.esc_unit.specs.declared.record.Record.{Record}
 use Rattle.esc_unit.specs.declared.answer.Answer.{Answer}
 use Rattle.esc_unit.specs.declared.unit.Unit.{Unit}

@@ -1,9 +1,7 @@
 -- Only a 0c is answered with a report, and the rule's report has these counts.
 use mathlib.Core.Path.{_≡_, refl, sym, _∙_, ap, subst}
-use mathlib.Core.List.{List, [], _∷_, _++_}
-use mathlib.Core.Option.{Option, none, some, Option·none-ne-some}
-use mathlib.Core.Bool.{Bool, true, false, not, _&&_, true≢false, false≢true}
-use Prim.Native.Nat.{ℕ}
+use mathlib.Core.Option.{Option, none, some}
+use mathlib.Core.Bool.{Bool, true, false, false≢true}
 use Rattle.blheli_telemetry.specs.Reply.{Reply, accepted, refused}
 use Rattle.esc_unit.specs.Record.{readRecord}
 use Rattle.esc_unit.specs.declared.record.Record.{Record}
@@ -11,7 +9,7 @@ use Rattle.esc_unit.specs.declared.record.Record.the-variants as kind
 use Rattle.esc_unit.specs.declared.answer.UnitReport.{UnitReport}
 use Rattle.esc_unit.specs.declared.answer.Answer.{Answer}
 use Rattle.esc_unit.specs.declared.answer.Answer.the-variants as answer
-use Rattle.booking.specs.History.{Opening, Past, Since, since, Call}
+use Rattle.booking.specs.History.{Opening, Past, Since, since}
 use Rattle.booking.specs.Counts.{reportOf}
 use Rattle.booking.specs.Rule.{answerTo, replyTo}
 use Rattle.booking.specs.Run.{run}

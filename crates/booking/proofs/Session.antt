@@ -6,7 +6,7 @@ use Rattle.blheli_telemetry.specs.BigEndian.{numberAt, bytesOf}
 use Rattle.esc_feedback.specs.Due.{due}
 use Rattle.esc_unit.specs.Record.{recordOf, readRecord}
 use Rattle.esc_unit.specs.Answer.{requestBytes, nextBytes, timeoutBytes, bodyBytes, answerBytes, replyBytes}
-use Rattle.booking.specs.History.{Call, Event, History, since}
+use Rattle.booking.specs.History.{Call, Event, since}
 use Rattle.booking.specs.Wire.{wire, latest, frameAt}
 use Rattle.booking.specs.Booking.{openRequest, startedAt}
 use Rattle.booking.specs.Faults.{faulted, quietSince, retries, expired, recovers}

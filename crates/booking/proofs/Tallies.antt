@@ -1,6 +1,6 @@
 -- Counts as the unit keeps them, one event at a time, are the counts of the rule, modulo 2^32 or saturated.
 use mathlib.Core.Path.{_≡_, refl}
-use mathlib.Core.List.{List, [], _∷_}
+use mathlib.Core.List.{[], _∷_}
 use mathlib.Core.Bool.{Bool, true, false}
 use Prim.Native.Nat.{ℕ, _+_}
 use native.Mathlib.Omega.{arith}

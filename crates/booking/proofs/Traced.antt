@@ -2,7 +2,7 @@
 use mathlib.Core.Path.{_≡_, refl, sym, _∙_, ap, subst}
 use mathlib.Core.List.{List, [], _∷_}
 use mathlib.Core.Option.{Option, none, some}
-use mathlib.Core.Bool.{Bool, true, false, true≢false, false≢true}
+use mathlib.Core.Bool.{Bool, true, false}
 use Prim.Native.Nat.{ℕ}
 use lib.Dec.{leb}
 use lib.ListN.{length}
@@ -10,16 +10,16 @@ use Rattle.blheli_telemetry.specs.Choice.{pick}
 use Rattle.blheli_telemetry.specs.Reply.{Reply, accepted, refused}
 use Rattle.esc_unit.specs.Record.{readRecord}
 use Rattle.esc_unit.specs.Answer.{answerBytes}
-use Rattle.esc_unit.specs.Unit.{neverOpened, unitOf, stepOf, opens, Replied, refusing, accepting, enter, ifRoom, callOn, callOf}
+use Rattle.esc_unit.specs.Unit.{neverOpened, stepOf, opens, Replied, refusing, enter, ifRoom, callOn, callOf}
 use Rattle.esc_unit.specs.declared.record.Record.{Record}
 use Rattle.esc_unit.specs.declared.record.Record.the-variants as kind
 use Rattle.esc_unit.specs.declared.answer.Answer.{Answer}
 use Rattle.esc_unit.specs.declared.unit.Unit.{Unit}
-use Rattle.booking.specs.History.{Opening, Seen, seen, Past, Since, then, sinceEvent, since, Call, Event, History}
-use Rattle.booking.specs.Rule.{answerTo, unopened, replyTo, withRoom, replyOn, ruleFor, traceOf}
-use Rattle.booking.specs.Run.{Ran, feed, run}
+use Rattle.booking.specs.History.{Opening, seen, Past, Since, then, sinceEvent, since, Call, History}
+use Rattle.booking.specs.Rule.{replyTo, withRoom, replyOn, ruleFor, traceOf}
+use Rattle.booking.specs.Run.{feed, run}
 use Rattle.booking.proofs.ManagerState.{managerAt}
-use Rattle.booking.proofs.UnitSteps.{UnitAt, StepOk, unit-new, step-ok}
+use Rattle.booking.proofs.UnitSteps.{UnitAt, unit-new, step-ok}
 
 -- the unit fits what came since the latest accepted 00, if there was one
 abbrev pub Fits : Option Since → Unit → Type 0

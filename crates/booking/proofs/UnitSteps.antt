@@ -1,10 +1,9 @@
 -- Each record, at the unit that belongs to a history: the answer is the rule's, and the unit left is that of the history with the record.
-use mathlib.Core.Path.{_≡_, refl, sym, _∙_, ap, subst}
-use mathlib.Core.List.{List, [], _∷_}
+use mathlib.Core.Path.{_≡_, refl, sym, _∙_, ap}
+use mathlib.Core.List.{[], _∷_}
 use mathlib.Core.Option.{Option, none, some, Option·none-ne-some}
-use mathlib.Core.Bool.{Bool, true, false, not, _&&_, _||_, true≢false, false≢true}
+use mathlib.Core.Bool.{Bool, true, false, _||_, true≢false, false≢true}
 use Prim.Native.Nat.{ℕ}
-use lib.Dec.{eqb}
 use Rattle.blheli_telemetry.specs.Choice.{pick}
 use Rattle.blheli_telemetry.specs.Parser.{pushOf, resetOf, newParser}
 use Rattle.blheli_telemetry.specs.declared.parser.StreamParser.{StreamParser}
@@ -28,18 +27,18 @@ use Rattle.esc_unit.specs.declared.books.Books.{Books}
 use Rattle.esc_unit.specs.declared.unit.Unit.{Unit}
 use Rattle.esc_unit.specs.declared.unit.Stepped.{Stepped}
 use Rattle.booking.specs.Maybe.{is, orElse, onlyIf}
-use Rattle.booking.specs.History.{Opening, Check, Timed, Requests, Wire, Idle, Seen, seen, Past}
-use Rattle.booking.specs.Wire.{Frame, timed, wire, frameAt}
-use Rattle.booking.specs.Booking.{booked, bookedTo, openRequest, latestFrame, newlyStarted, startedRequest}
-use Rattle.booking.specs.Faults.{faulted, expired, recovers, note}
+use Rattle.booking.specs.History.{Opening, Timed, Wire, Idle, Seen, seen, Past}
+use Rattle.booking.specs.Wire.{Frame}
+use Rattle.booking.specs.Booking.{booked, bookedTo, openRequest, latestFrame, newlyStarted}
+use Rattle.booking.specs.Faults.{faulted, expired, recovers}
 use Rattle.booking.specs.Turns.{existing, names}
 use Rattle.booking.specs.IdleRule.{judged}
 use Rattle.booking.specs.Counts.{queued, started, ackTimeout, responseTimeout, mismatched, unsolicited, recovered, framed, wrong, renewed, reportOf}
-use Rattle.booking.specs.Rule.{nextAnswer, ackAnswer, wireAnswerOf, answerTo}
+use Rattle.booking.specs.Rule.{ackAnswer, wireAnswerOf, answerTo}
 use Rattle.booking.proofs.Tallies.{wrapping-is, saturating-is}
 use Rattle.booking.proofs.ManagerState.{managerAt, ParserAt, event, byteSeen, noWire, parser-byte, parser-same, parser-cut, parser-new, manager-new}
-use Rattle.booking.proofs.ManagerSteps.{showing, updateAnswer, delivers, ackOutcome, seenTimeout, byte-ok, ack-ok, poll-ok, next-ok, mark-ok, recover-ok, cut-ok, take-ok, refresh-ok, same-ok, and-left}
-use Rattle.booking.proofs.BooksState.{BooksAt, books-new, Kept, took, asked-status, same, dropped, checked, stored-at, figure-at}
+use Rattle.booking.proofs.ManagerSteps.{showing, updateAnswer, delivers, ackOutcome, seenTimeout, byte-ok, ack-ok, poll-ok, next-ok, mark-ok, recover-ok, cut-ok, take-ok, refresh-ok, same-ok}
+use Rattle.booking.proofs.BooksState.{BooksAt, books-new, took, asked-status, same, dropped, checked, stored-at, figure-at}
 
 -- while faulted no request is open
 abbrev pub Calm : Past → Type 0

@@ -1,7 +1,7 @@
 -- The booking rule (document 01): by which a sample is delivered, and to which request. It reads records and earlier answers only.
 use Prim.Native.Nat.{ℕ}
-use mathlib.Core.Bool.{Bool, true, false, not, _&&_, _||_}
-use mathlib.Core.List.{List, [], _∷_}
+use mathlib.Core.Bool.{Bool, not, _&&_, _||_}
+use mathlib.Core.List.{[], _∷_}
 use mathlib.Core.Option.{Option, none, some}
 use lib.Dec.{eqb}
 use Rattle.blheli_telemetry.specs.Choice.{pick}
@@ -10,7 +10,7 @@ use Rattle.esc_feedback.specs.Output.{laneOf}
 use Rattle.esc_feedback.specs.declared.request.EscActuatorRequest.{EscActuatorRequest}
 use Rattle.esc_feedback.specs.declared.request.EscTelemetryUpdate.{EscTelemetryUpdate}
 use Rattle.booking.specs.Maybe.{is, orElse, earliest, onlyIf}
-use Rattle.booking.specs.History.{Timed, Seen, Past}
+use Rattle.booking.specs.History.{Timed, Past}
 use Rattle.booking.specs.Wire.{Frame, wire, frameIn}
 
 -- same S and L

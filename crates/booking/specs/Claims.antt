@@ -5,7 +5,6 @@ use mathlib.Core.List.{List, [], _∷_, _++_}
 use mathlib.Core.Option.{Option, none, some}
 use Rattle.blheli_telemetry.specs.Reply.{Reply, accepted, refused}
 use Rattle.blheli_telemetry.specs.Parser.{pushOf}
-use Rattle.blheli_telemetry.specs.declared.parser.Parsed.{Parsed}
 use Rattle.esc_feedback.specs.declared.request.EscTelemetryUpdate.{EscTelemetryUpdate}
 use Rattle.esc_unit.specs.Record.{readRecord}
 use Rattle.esc_unit.specs.Unit.{callOf, outputAfter}
@@ -16,7 +15,7 @@ use Rattle.esc_unit.specs.declared.answer.Answer.{Answer}
 use Rattle.esc_unit.specs.declared.answer.Answer.the-variants as answer
 use Rattle.esc_unit.specs.declared.unit.Unit.{Unit}
 use Rattle.booking.specs.Maybe.{is}
-use Rattle.booking.specs.History.{Past, Since, since, seen, Call, History}
+use Rattle.booking.specs.History.{Past, Since, since, seen, Call}
 use Rattle.booking.specs.Wire.{OnWire, cut, wire, frameAt, timed, parsed}
 use Rattle.booking.specs.Booking.{bookedTo, openRequest, latestFrame, newlyStarted, startedRequest}
 use Rattle.booking.specs.Counts.{one, count, queued, started, delivered, ackTimeout, responseTimeout, mismatched, recovered}

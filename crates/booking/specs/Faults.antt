@@ -1,15 +1,15 @@
 -- Timeouts, the quiet time, recoveries and the note for 08 (document 01, 'Manager').
 use Prim.Native.Nat.{ℕ, _+_, _-_, _*_, _^_, min, max}
 use mathlib.Core.Bool.{Bool, true, false, not, _&&_}
-use mathlib.Core.List.{List, [], _∷_}
+use mathlib.Core.List.{[], _∷_}
 use mathlib.Core.Option.{Option, none, some}
 use lib.Dec.{eqb, leb}
 use Rattle.blheli_telemetry.specs.Choice.{pick}
 use Rattle.esc_feedback.specs.Due.{due}
 use Rattle.esc_feedback.specs.declared.answer.EscManagerTimeout.{EscManagerTimeout}
 use Rattle.esc_feedback.specs.declared.answer.EscManagerTimeout.the-variants.{None, ActuatorAck, TelemetryResponse}
-use Rattle.booking.specs.Maybe.{is, orElse, onlyIf}
-use Rattle.booking.specs.History.{Opening, Timed, Byte, Seen, Past}
+use Rattle.booking.specs.Maybe.{is, onlyIf}
+use Rattle.booking.specs.History.{Opening, Timed, Byte, Past}
 use Rattle.booking.specs.Booking.{openRequest, startedAt}
 
 -- a timeout sets faulted, and a 07 answered yes ends it

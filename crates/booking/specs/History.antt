@@ -16,9 +16,7 @@ use Rattle.esc_unit.specs.declared.record.Record.{Record}
 use Rattle.esc_unit.specs.declared.record.Record.the-variants as kind
 use Rattle.esc_unit.specs.declared.answer.IdleAnswer.{IdleAnswer}
 use Rattle.esc_unit.specs.declared.answer.Delivered.{Delivered}
-use Rattle.esc_unit.specs.declared.answer.AckAnswer.{AckAnswer}
 use Rattle.esc_unit.specs.declared.answer.AckAnswer.the-variants as ack
-use Rattle.esc_unit.specs.declared.answer.WireAnswer.{WireAnswer}
 use Rattle.esc_unit.specs.declared.answer.WireAnswer.the-variants as wire
 use Rattle.esc_unit.specs.declared.answer.Answer.{Answer}
 use Rattle.esc_unit.specs.declared.answer.Answer.the-variants as answer

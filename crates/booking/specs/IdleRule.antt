@@ -18,7 +18,7 @@ use Rattle.esc_feedback.specs.declared.idle_verdict.EscIdleQualificationStatus.
 use Rattle.esc_unit.specs.declared.answer.IdleAnswer.{IdleAnswer}
 use Rattle.esc_unit.specs.declared.answer.IdleAnswer.the-variants.{NoCheck, Status}
 use Rattle.booking.specs.Maybe.{is, orElse, earliest, onlyIf}
-use Rattle.booking.specs.History.{Check, Seen, Past}
+use Rattle.booking.specs.History.{Check, Past}
 
 -- 0a replaces the check
 unfoldable pub check : Past → Option Check

@@ -1,6 +1,5 @@
 -- The rule: the reply to every call, from its record, the room lent and what was fed and answered before. No unit is in it.
 use Prim.Native.Nat.{ℕ}
-use mathlib.Core.Bool.{Bool, true, false}
 use mathlib.Core.List.{List, [], _∷_}
 use mathlib.Core.Option.{Option, none, some}
 use lib.Dec.{leb}
@@ -26,7 +25,7 @@ use Rattle.esc_unit.specs.declared.answer.StoredAnswer.{StoredAnswer}
 use Rattle.esc_unit.specs.declared.answer.StoredAnswer.the-variants as storedAnswer
 use Rattle.esc_unit.specs.declared.answer.Answer.{Answer}
 use Rattle.esc_unit.specs.declared.answer.Answer.the-variants as answer
-use Rattle.booking.specs.History.{Opening, Past, Since, since, Call, Event, History}
+use Rattle.booking.specs.History.{Opening, Past, Since, since, Call, History}
 use Rattle.booking.specs.Wire.{Frame, wire, frameAt, timed}
 use Rattle.booking.specs.Booking.{booked, bookedTo, newlyStarted, startedRequest, latestFrame}
 use Rattle.booking.specs.Turns.{existing, names}

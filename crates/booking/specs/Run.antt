@@ -2,7 +2,7 @@
 use mathlib.Core.List.{List, [], _∷_}
 use Rattle.esc_unit.specs.Unit.{neverOpened, callOf}
 use Rattle.esc_unit.specs.declared.unit.Unit.{Unit}
-use Rattle.booking.specs.History.{Call, Event, History}
+use Rattle.booking.specs.History.{Call, History}
 
 pub record Ran : Type 0 where
   pub unit : Unit

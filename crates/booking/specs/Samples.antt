@@ -1,6 +1,6 @@
 -- Stored samples and figures (document 01): of the samples delivered since the opening.
 use Prim.Native.Nat.{ℕ, _-_, _^_, min, max}
-use mathlib.Core.Bool.{Bool, true, false, not}
+use mathlib.Core.Bool.{not}
 use mathlib.Core.List.{List, [], _∷_}
 use mathlib.Core.Option.{Option, none, some}
 use lib.Dec.{eqb}
@@ -11,7 +11,7 @@ use Rattle.esc_feedback.specs.declared.output.Lane.{Lane}
 use Rattle.esc_feedback.specs.declared.request.EscTelemetryUpdate.{EscTelemetryUpdate}
 use Rattle.esc_unit.specs.declared.figures.Figure.{Figure}
 use Rattle.booking.specs.Maybe.{onlyIf}
-use Rattle.booking.specs.History.{Seen, Past}
+use Rattle.booking.specs.History.{Past}
 
 abbrev newest : Option EscTelemetryUpdate → Lane → Option EscTelemetryUpdate → Option EscTelemetryUpdate
 newest none l old = old

@@ -10,7 +10,7 @@ use Rattle.blheli_telemetry.specs.Frame.{telemetryOf}
 use Rattle.blheli_telemetry.specs.declared.parser.Parsed.{Parsed}
 use Rattle.blheli_telemetry.specs.declared.parser.Parsed.the-variants.{Sample, Nothing}
 use Rattle.booking.specs.Maybe.{is}
-use Rattle.booking.specs.History.{Byte, Seen, Past}
+use Rattle.booking.specs.History.{Byte, Past}
 
 pub data OnWire : Type 0 where
   byte : ℕ → OnWire

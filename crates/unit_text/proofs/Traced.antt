@@ -1,18 +1,16 @@
 -- What a session writes is the text of the trace: each line's reply is the rule's, by the claim over whole lists.
-use mathlib.Core.Path.{_≡_, refl, sym, _∙_, ap, subst}
-use mathlib.Core.List.{List, [], _∷_, _++_}
+use mathlib.Core.Path.{_≡_, refl}
+use mathlib.Core.List.{List, [], _∷_}
 use Prim.Native.Nat.{ℕ}
 use Rattle.blheli_telemetry.specs.Reply.{Reply, accepted, refused}
-use Rattle.esc_unit.specs.Answer.{replyBytes}
-use Rattle.esc_unit.specs.Unit.{neverOpened, Replied, callOf}
-use Rattle.esc_unit.specs.declared.answer.Answer.{Answer}
+use Rattle.esc_unit.specs.Unit.{neverOpened, Replied}
 use Rattle.esc_unit.specs.declared.unit.Unit.{Unit}
-use Rattle.booking.specs.History.{Event, History, since}
+use Rattle.booking.specs.History.{History, since}
 use Rattle.booking.specs.Rule.{ruleFor}
 use Rattle.booking.proofs.Traced.{Fits, called}
-use Rattle.unit_text.specs.Line.{readLine, printedLine}
+use Rattle.unit_text.specs.Line.{readLine}
 use Rattle.unit_text.specs.Session.{linesOf, longestAnswer, answerOn, answerLine, unitAfter, lineText, linesText, sessionText}
-use Rattle.unit_text.specs.Traced.{callFor, ruled, historyAfter, linesTraced, tracedText}
+use Rattle.unit_text.specs.Traced.{ruled, historyAfter, linesTraced, tracedText}
 
 -- a line's reply, and the unit that it leaves
 record Ruled (h : History) (x : Reply (List ℕ)) (k : Replied) : Type 0 where

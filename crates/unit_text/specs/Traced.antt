@@ -4,7 +4,7 @@ use Prim.Native.Nat.{ℕ}
 use Rattle.blheli_telemetry.specs.Reply.{Reply, accepted, refused}
 use Rattle.esc_unit.specs.Answer.{replyBytes}
 use Rattle.esc_unit.specs.declared.answer.Answer.{Answer}
-use Rattle.booking.specs.History.{Call, Event, History}
+use Rattle.booking.specs.History.{Call, History}
 use Rattle.booking.specs.Rule.{ruleFor}
 use Rattle.unit_text.specs.Line.{readLine, printedLine}
 use Rattle.unit_text.specs.Session.{linesOf, longestAnswer}

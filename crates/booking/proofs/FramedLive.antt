@@ -1,0 +1,38 @@
+-- Lists on which the claims on framing say something: the same bytes after a cut are a frame whatever came before; a cut among ten bytes undoes one.
+use mathlib.Core.Path.{_≡_, refl}
+use mathlib.Core.List.{List, [], _∷_, _++_, map}
+use mathlib.Core.Option.{Option, none, some}
+use Prim.Native.Nat.{ℕ}
+use lib.ListN.{replicate}
+use Rattle.blheli_telemetry.specs.BigEndian.{numberAt, bytesOf}
+use Rattle.blheli_telemetry.specs.Crc.{crcBit, crcBits, crcByte, crcFrom, crcOf}
+use Rattle.blheli_telemetry.specs.Frame.{telemetryOf, payloadOf}
+use Rattle.esc_feedback.specs.Due.{due}
+use Rattle.esc_unit.specs.Record.{recordOf, readRecord}
+use Rattle.esc_unit.specs.Answer.{requestBytes, sampleBytes, deliveredBytes, failureBytes, idleBytes, nextBytes, ackBytes, wireBytes, timeoutBytes, bodyBytes, answerBytes}
+use Rattle.booking.specs.History.{since}
+use Rattle.booking.specs.Wire.{wire, latest, frameAt}
+use Rattle.booking.specs.Booking.{openRequest, startedAt, latestFrame, newlyStarted, startedRequest}
+use Rattle.booking.specs.Faults.{faulted, quietSince, retries, expired, recovers, note}
+use Rattle.booking.specs.Turns.{turn, lastQueued, existing}
+use Rattle.booking.specs.IdleRule.{check, verdict, run, judged}
+use Rattle.booking.specs.Rule.{ruleFor, traceOf}
+use Rattle.booking.proofs.Live.{open′, byte, pastBy}
+
+abbrev cutWire : List ℕ
+cutWire = 0x06 ∷ []
+
+-- eight 00, 1e and 5a are a frame (document 01, 'Cases for the proved table')
+abbrev nine : List ℕ
+nine = replicate 8 0x00 ++ 0x1e ∷ []
+
+-- the frame that a byte ends, after an opening and a list of records
+abbrev endedBy : ℕ → List (List ℕ) → Option (List ℕ)
+endedBy b records = frameAt (wire (pastBy (open′ ∷ records))) b
+
+pub framing : (endedBy 0x5a (map (byte 1) (0xaa ∷ 0x00 ∷ 0x00 ∷ []) ++ cutWire ∷ map (byte 2) nine) ≡ some (nine ++ 0x5a ∷ []))
+    × (endedBy 0x5a (cutWire ∷ map (byte 7) nine) ≡ some (nine ++ 0x5a ∷ []))
+    × (endedBy 0x00 (map (byte 1) (replicate 9 0x00)) ≡ some (replicate 10 0x00))
+    × (endedBy 0x00 (map (byte 1) (replicate 5 0x00) ++ cutWire ∷ map (byte 1) (replicate 4 0x00)) ≡ none)
+unfolding numberAt bytesOf crcBit crcBits crcByte crcFrom crcOf telemetryOf payloadOf due recordOf readRecord requestBytes sampleBytes deliveredBytes failureBytes idleBytes nextBytes ackBytes wireBytes timeoutBytes bodyBytes answerBytes since wire latest frameAt openRequest startedAt latestFrame newlyStarted startedRequest faulted quietSince retries expired recovers note turn lastQueued existing check verdict run judged ruleFor traceOf
+framing = (refl, refl, refl, refl)
