@@ -1,12 +1,12 @@
 -- Numbers highest byte first: their bytes, and writing these over a buffer one after the other.
-use mathlib.Core.Path.{_≡_, refl, ap, sym, _∙_}
+use mathlib.Core.Path.{_≡_, refl, sym, _∙_}
 use mathlib.Core.List.{List, [], _∷_, _++_, append-assoc}
 use Prim.Native.Nat.{ℕ, zero, suc, _+_, _*_, _/_, _%_, _<_, _≤_}
 use native.Mathlib.Omega.{arith}
 use native.Mathlib.Nat.{add-zero, zero-add, add-suc, add-assoc}
 use native.Mathlib.Numerals.{add-one}
 use lib.ListN.{length, getD, set, take, drop, length-append, length-take, length-drop, length-set}
-use lib.Seq.{take-suc, getD-drop, take-at, drop-append-add, drop-drop, set-split, length-take-le}
+use lib.Seq.{take-suc, getD-drop, take-at, drop-append-add, drop-drop, set-split}
 use Rattle.blheli_telemetry.specs.BigEndian.{numberAt, bytesOf, overwrite}
 
 pub number-one : (s : List ℕ) (at : ℕ) → numberAt 1 s at ≡ getD s at 0

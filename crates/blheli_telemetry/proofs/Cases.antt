@@ -1,6 +1,6 @@
 -- Document 01's 'Cases for the proved table' that speak of the CRC and the frame, of the rules themselves, by computation.
 use mathlib.Core.Path.{_≡_, refl}
-use mathlib.Core.List.{List, [], _∷_, _++_}
+use mathlib.Core.List.{[], _∷_, _++_}
 use Prim.Native.Nat.{ℕ}
 use lib.ListN.{replicate}
 use Rattle.blheli_telemetry.specs.BigEndian.{numberAt}

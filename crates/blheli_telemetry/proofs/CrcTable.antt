@@ -5,7 +5,7 @@ use Prim.Native.Nat.{ℕ, _<_}
 use lib.Dec.{T, eqb, eqb→eq}
 use lib.ListN.{length, getD}
 use mathlib.Core.Path.{_≡_, subst, sym}
-use Rattle.blheli_telemetry.specs.Crc.{crcBit, crcBits, Tabled}
+use Rattle.blheli_telemetry.specs.Crc.{crcBits, Tabled}
 use Rattle.blheli_telemetry.proofs.Table.{every, at}
 
 -- does an entry stand where the rule has it?

@@ -1,17 +1,16 @@
 -- The loop that drops the oldest byte, and the parser's two ways.
-use mathlib.Core.Path.{_≡_, refl, ap, ap₂, sym, _∙_}
+use mathlib.Core.Path.{_≡_, ap, ap₂, sym, _∙_}
 use mathlib.Core.List.{List}
-use Prim.Native.Nat.{ℕ, _+_, _<_, _≤_}
+use Prim.Native.Nat.{ℕ, _+_, _<_}
+use mathlib.Core.Bool.{true, false}
+use lib.Dec.{ltb}
 use native.Mathlib.Omega.{arith}
 use native.Mathlib.Nat.{zero-add, add-comm}
 use native.Mathlib.Numerals.{add-one}
 use lib.ListN.{length, getD, set, drop, length-drop}
 use lib.Seq.{paste, paste-suc, getD-drop}
-use borrow.Author.Tests.{lt-ltb, le-ltb}
-use Rattle.blheli_telemetry.specs.Reply.{Reply}
 use Rattle.blheli_telemetry.specs.Frame.{readFrame}
 use Rattle.blheli_telemetry.specs.Parser.{shiftedDown, collected, completed, pushOf}
-use Rattle.blheli_telemetry.specs.declared.frame.EscTelemetry.{EscTelemetry}
 use Rattle.blheli_telemetry.specs.declared.parser.StreamParser.{StreamParser}
 
 pub shift-turn : (b f : List ℕ) (i : ℕ) → length b ≡ 10 → i < 9 → f ≡ paste b 0 (drop 1 b) i
@@ -28,10 +27,10 @@ pub shift-end : (b f : List ℕ) (i : ℕ) → i ≡ 9 → f ≡ paste b 0 (drop
 unfolding shiftedDown
 shift-end b f i h e = e ∙ ap (λ (k : ℕ). paste b 0 (drop 1 b) k) h
 
-pub push-few : (p : StreamParser) (b : ℕ) → p .len < 9 → pushOf p b ≡ collected p b
+pub push-few : (p : StreamParser) (b : ℕ) → ltb (p .len) 9 ≡ true → pushOf p b ≡ collected p b
 unfolding pushOf
-push-few p b h = rw (lt-ltb _ _ h)
+push-few p b h = rw h
 
-pub push-tenth : (p : StreamParser) (b : ℕ) → 9 ≤ p .len → pushOf p b ≡ completed (set (p .bytes) 9 b) (p .stats) (readFrame (set (p .bytes) 9 b))
+pub push-tenth : (p : StreamParser) (b : ℕ) → ltb (p .len) 9 ≡ false → pushOf p b ≡ completed (set (p .bytes) 9 b) (p .stats) (readFrame (set (p .bytes) 9 b))
 unfolding pushOf
-push-tenth p b h = rw (le-ltb _ _ h)
+push-tenth p b h = rw h

@@ -1,13 +1,12 @@
 -- Reading and writing a frame undo each other.
 use mathlib.Core.Path.{_≡_, refl, ap, sym, _∙_}
-use mathlib.Core.List.{List, [], _∷_, _++_}
+use mathlib.Core.List.{List}
 use Prim.Native.Nat.{ℕ, _<_, _≤_}
 use native.Mathlib.Omega.{arith}
 use lib.ListN.{length, getD, take, drop}
 use lib.Seq.{take-add, take-suc, take-all, drop-drop}
 use Rattle.blheli_telemetry.specs.Reply.{accepted}
 use Rattle.blheli_telemetry.specs.BigEndian.{numberAt, bytesOf}
-use Rattle.blheli_telemetry.specs.Crc.{crcOf}
 use Rattle.blheli_telemetry.specs.Frame.{telemetryOf, payloadOf, frameOf, readFrame, Ranged}
 use Rattle.blheli_telemetry.specs.declared.frame.EscTelemetry.{EscTelemetry}
 use Rattle.blheli_telemetry.proofs.BigEndianLaws.{bytes-number}

@@ -3,7 +3,6 @@ use mathlib.Core.Path.{_≡_, refl, ap, sym, _∙_}
 use mathlib.Core.List.{List, [], _∷_, _++_}
 use Prim.Native.Nat.{ℕ, suc, _+_, _<_, _≤_, min}
 use native.Mathlib.Omega.{arith}
-use native.Mathlib.Numerals.{add-one}
 use lib.ListN.{length, getD, set, take, drop, length-set, length-take, length-drop, length-append, drop-of-length-le}
 use lib.Seq.{take-suc-set, set-split, take-all, take-at, getD-at}
 use borrow.Author.Tests.{lt-ltb, le-ltb}
@@ -74,8 +73,8 @@ module _ (p : StreamParser) (b : ℕ) (ten : length (p .bytes) ≡ 10) where
   unfolding givenAfter
   given-by-held =
       below-or-not (p .len) 9
-      (λ h. rw (push-few p b h, lt-ltb _ _ (few-length h)))
-      (λ h. rw (push-tenth p b h, le-ltb _ _ (nine-length h), filled h) (completed-given (held p ++ b ∷ []) (p .stats) (readFrame (held p ++ b ∷ []))))
+      (λ h. rw (push-few p b (lt-ltb _ _ h), lt-ltb _ _ (few-length h)))
+      (λ h. rw (push-tenth p b (le-ltb _ _ h), le-ltb _ _ (nine-length h), filled h) (completed-given (held p ++ b ∷ []) (p .stats) (readFrame (held p ++ b ∷ []))))
 
   pub held-by-held : held (pushOf p b .parser) ≡ heldAfter (held p) b
   unfolding heldAfter
@@ -84,26 +83,26 @@ module _ (p : StreamParser) (b : ℕ) (ten : length (p .bytes) ≡ 10) where
       (λ h.
       let e : min (p .len + 1) 9 ≡ suc (p .len) = omega arith in
       let i : p .len < length (p .bytes) = omega arith in
-      rw (push-few p b h, lt-ltb _ _ (few-length h), few h, e) (take-suc-set (p .bytes) (p .len) b i))
+      rw (push-few p b (lt-ltb _ _ h), lt-ltb _ _ (few-length h), few h, e) (take-suc-set (p .bytes) (p .len) b i))
       (λ h.
       let l : length (held p ++ b ∷ []) ≡ 10 = ap length (sym (filled h)) ∙ simp length-set ten in
-      rw (push-tenth p b h, le-ltb _ _ (nine-length h), filled h)
+      rw (push-tenth p b (le-ltb _ _ h), le-ltb _ _ (nine-length h), filled h)
       (completed-held (held p ++ b ∷ []) (p .stats) (readFrame (held p ++ b ∷ [])) l))
 
   pub counted-by-held : pushOf p b .parser .stats ≡ countedAfter (held p) b (p .stats)
   unfolding countedAfter
   counted-by-held =
       below-or-not (p .len) 9
-      (λ h. rw (push-few p b h, lt-ltb _ _ (few-length h)))
+      (λ h. rw (push-few p b (lt-ltb _ _ h), lt-ltb _ _ (few-length h)))
       (λ h.
-      rw (push-tenth p b h, le-ltb _ _ (nine-length h), filled h)
+      rw (push-tenth p b (le-ltb _ _ h), le-ltb _ _ (nine-length h), filled h)
       (completed-counted (held p ++ b ∷ []) (p .stats) (readFrame (held p ++ b ∷ []))))
 
   pub keeps-ten : length (pushOf p b .parser .bytes) ≡ 10
   keeps-ten =
       below-or-not (p .len) 9
-      (λ h. rw (push-few p b h) (simp length-set ten))
-      (λ h. rw (push-tenth p b h) (completed-ten (set (p .bytes) 9 b) (p .stats) (readFrame (set (p .bytes) 9 b)) (simp length-set ten)))
+      (λ h. rw (push-few p b (lt-ltb _ _ h)) (simp length-set ten))
+      (λ h. rw (push-tenth p b (le-ltb _ _ h)) (completed-ten (set (p .bytes) 9 b) (p .stats) (readFrame (set (p .bytes) 9 b)) (simp length-set ten)))
 
 -- what a byte brings out, leaves and counts
 pub record Way (xs : List ℕ) (b : ℕ) (g : Parsed) (h : List ℕ) (c : ParserStats → ParserStats) : Type 0 where

@@ -3,7 +3,9 @@
 // A CRC failure advances by one byte because the protocol has no sync byte. This recovers from
 // dropped and noisy bytes while memory and work stay bounded.
 ghost use mathlib.Core.Path.{_≡_};
-ghost use Rattle.blheli_telemetry.specs.Parser.{newParser, countedGood, countedBad, shiftedDown, pushOf, resetOf};
+ghost use lib.Dec.{ltb};
+ghost use Rattle.blheli_telemetry.specs.Choice.{pick};
+ghost use Rattle.blheli_telemetry.specs.Parser.{newParser, countedGood, countedBad, shiftedDown, collected, pushOf, resetOf};
 use crate::frame::Decoded;
 use crate::frame::EscTelemetry;
 use crate::frame::decode;
@@ -16,9 +18,9 @@ pub struct ParserStats {
 }
 
 pub struct StreamParser {
-    bytes: [u8; 10],
     len: usize,
     stats: ParserStats,
+    bytes: [u8; 10],
 }
 
 // What a byte brings out of the parser.
@@ -49,25 +51,43 @@ impl StreamParser {
         }
     }
 
-    // The parser with one byte more, and what that byte brings out of it.
-    pub fn pushed(self, byte: u8) -> Pushed
-        ensures { λ r. ⌜ r ≡ pushOf self byte ⌝ }
+    // Whether one byte more is only held, since it makes no ten.
+    pub fn collects(self) -> bool
+        ensures { λ r. ⌜ r ≡ ltb (self .len) 9 ⌝ }
+    {
+        self.len < 9
+    }
+
+    // The parser with one byte more held; as it is where that byte would be the tenth.
+    pub fn collected(self, byte: u8) -> StreamParser
+        ensures { λ r. ⌜ r ≡ pick (ltb (self .len) 9) (collected self byte .parser) self ⌝ }
     {
         let len = self.len;
         let mut bytes = self.bytes;
         let stats = self.stats;
         if len < 9 {
             bytes[len] = byte;
-            let parser = StreamParser {
+            return StreamParser {
                 bytes,
                 len: len + 1,
                 stats,
             };
+        }
+        self
+    }
+
+    // The parser with one byte more, and what that byte brings out of it.
+    pub fn pushed(self, byte: u8) -> Pushed
+        ensures { λ r. ⌜ r ≡ pushOf self byte ⌝ }
+    {
+        if self.collects() {
             return Pushed {
-                parser,
+                parser: self.collected(byte),
                 parsed: Parsed::Nothing,
             };
         }
+        let mut bytes = self.bytes;
+        let stats = self.stats;
         bytes[9] = byte;
         let Decoded::Telemetry(sample) = decode(&bytes) else {
             let rest = shifted_down(bytes);

@@ -1,15 +1,15 @@
 -- Each case of one lane, and what a pass over the lanes says of each of them.
-use mathlib.Core.Path.{_≡_, refl, ap, sym, _∙_}
+use mathlib.Core.Path.{_≡_, refl, ap}
 use mathlib.Core.Bool.{Bool, true, false, _&&_, false≢true}
-use mathlib.Core.List.{List, [], _∷_, map}
+use mathlib.Core.List.{List, [], _∷_}
 use Prim.Native.Nat.{ℕ, zero, suc, _<_, _≤_}
 use native.Mathlib.Nat.{not-suc-le-zero, le-of-suc-le-suc}
-use lib.ListN.{length, getD, List·getD-map}
+use lib.ListN.{length}
 use borrow.Author.Tests.{lt-ltb, le-ltb, leb-true}
 use Rattle.blheli_telemetry.specs.Choice.{pick}
 use Rattle.blheli_telemetry.specs.Parser.{saturated}
 use Rattle.esc_feedback.specs.Due.{due}
-use Rattle.esc_feedback.specs.IdleLane.{clearLane, countUp, countLane, expired, expireLane, expireLanes, enough, everyEnough, countOf}
+use Rattle.esc_feedback.specs.IdleLane.{clearLane, countUp, countLane, expired, expireLane, enough, everyEnough, countOf}
 use Rattle.esc_feedback.specs.declared.request.EscTelemetryObservation.{EscTelemetryObservation}
 use Rattle.esc_feedback.specs.declared.idle_lane.Newest.the-variants.{None, At}
 use Rattle.esc_feedback.specs.declared.idle_lane.IdleLane.{IdleLane}
@@ -41,13 +41,6 @@ module _ (age now : ℕ) (l : IdleLane) where
   pub expire-kept : expired age now (l .newest) ≡ false → expireLane age now l ≡ l
   unfolding expireLane
   expire-kept e = ap (λ (b : Bool). pick b clearLane l) e
-
--- each lane passes on its own
-pub expire-lanes-at : (age now : ℕ) (ls : List IdleLane) (k : ℕ) → getD (expireLanes age now ls) k clearLane ≡ expireLane age now (getD ls k clearLane)
-unfolding expireLanes
-expire-lanes-at age now ls k =
-    ap (getD (map (expireLane age now) ls) k) (sym (expire-kept age now clearLane (expired-none age now)))
-    ∙ List·getD-map (expireLane age now) ls k clearLane
 
 -- where every lane has enough, each has
 both : (a b : Bool) → a && b ≡ true → (a ≡ true) × (b ≡ true)

@@ -1,7 +1,12 @@
 -- 05, one law for each case: no sample, one with nothing open, one to be held, and one that is delivered.
 use mathlib.Core.Path.{_≡_, ap, _∙_}
 use Prim.Native.Nat.{ℕ}
-use Rattle.blheli_telemetry.specs.Parser.{pushOf}
+use mathlib.Core.Bool.{true}
+use lib.Dec.{ltb}
+use Rattle.blheli_telemetry.specs.Parser.{collected, pushOf}
+use Rattle.blheli_telemetry.specs.declared.parser.StreamParser.{StreamParser}
+use Rattle.blheli_telemetry.specs.declared.parser.Pushed.{Pushed}
+use Rattle.blheli_telemetry.proofs.ParserLaws.{push-few}
 use Rattle.blheli_telemetry.specs.declared.frame.EscTelemetry.{EscTelemetry}
 use Rattle.blheli_telemetry.specs.declared.parser.Parsed.the-variants.{Sample, Nothing}
 use Rattle.esc_feedback.specs.Request.{observationOf, updateOf}
@@ -41,6 +46,14 @@ module _ (m : EscManager) (byte at : ℕ) where
   pub pushed-nothing : pushOf (m .parser) byte .parsed ≡ Nothing → pushWire m byte at ≡ record { manager = taken; answer = update.None }
   unfolding pushWire receivedOn
   pushed-nothing e = ap (receivedOn taken at) e
+
+  -- a byte that the parser only holds: nothing else moves but the quiet time
+  pub pushed-collected : ltb (m .parser .len) 9 ≡ true
+      → pushWire m byte at ≡ record { manager = setParser (collected (m .parser) byte .parser) (heardBy m at); answer = update.None }
+  pushed-collected few =
+      let held = push-few (m .parser) byte few in
+      pushed-nothing (ap (λ (p : Pushed). p .parsed) held)
+      ∙ ap (λ (p : StreamParser). record { manager = setParser p (heardBy m at); answer = update.None }) (ap (λ (p : Pushed). p .parser) held)
 
   pub pushed-sample : (sample : EscTelemetry) → pushOf (m .parser) byte .parsed ≡ Sample sample → pushWire m byte at ≡ framed (refreshed taken) sample at
   unfolding pushWire receivedOn

@@ -24,6 +24,7 @@ pub use answer::WireUpdate;
 pub use config::ESC_REQUEST_EXPIRY_MS;
 pub use config::ESC_RETRY_BACKOFF_STEPS;
 pub use config::EscManagerConfig;
+pub use fault::Fault;
 pub use idle::EscIdleJudged;
 pub use idle::EscIdleQualification;
 pub use idle_config::DSHOT_IDLE_QUALIFICATION_CONFIG;

@@ -31,14 +31,16 @@ pub struct Back {
     pub note: BackAfterRetries,
 }
 
+// Most bytes only move the fault's quiet time and join the parser: these two are public, so that a
+// loop over bytes can change them in place.
 pub struct EscManager {
     config: EscManagerConfig,
     boot_started_ms: u64,
     turn: Turn,
     line: Line,
-    fault: Fault,
+    pub fault: Fault,
     back: Back,
-    parser: StreamParser,
+    pub parser: StreamParser,
     stats: EscManagerStats,
 }
 

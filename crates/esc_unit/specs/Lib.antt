@@ -5,5 +5,7 @@ pub mod Put
 pub mod Write
 pub mod Figures
 pub mod Books
+pub mod Entry
 pub mod Unit
+pub mod Managed
 pub mod Replies

@@ -1,27 +1,25 @@
 // The unit: one manager and its books, one call for each record.
 mod call;
-mod idle;
-mod recovery;
-mod report;
-mod requests;
-mod wire;
 
 pub use call::CallReply;
 pub use call::Called;
 ghost use mathlib.Core.Path.{_≡_};
 ghost use mathlib.Core.Bool.{_||_};
-ghost use Rattle.esc_unit.specs.Unit.{neverOpened, unitOf, stepOf, opens, enter};
+ghost use Rattle.esc_unit.specs.Unit.{neverOpened, stepOf, opens, enter};
 ghost use Rattle.esc_unit.specs.Replies.{stepReplied};
 use crate::answer::Answer;
 use crate::books::Books;
+use crate::managed::Left;
+use crate::managed::manage;
 use crate::record::Record;
 use esc_feedback::EscManager;
 use esc_feedback::EscManagerConfig;
 
+// Its parts are public, so that a loop over records can change in place what a record touches.
 pub struct Unit {
-    opened: bool,
-    manager: EscManager,
-    books: Books,
+    pub opened: bool,
+    pub manager: EscManager,
+    pub books: Books,
 }
 
 // An opened unit after a record, and its answer.
@@ -92,83 +90,33 @@ impl Unit {
         opens(record)
     }
 
-    // What each kind of record does, 00 to 0e.
+    // What each kind of record does, 00 to 0e: the manager has it first, then the books what is left.
     fn stepped(self, record: Record) -> Stepped
         ensures { λ r. ⌜ r ≡ stepOf (self .manager) (self .books) «record» ⌝ }
     {
-        match record {
-            Record::Open {
-                config,
-                boot_started_ms,
-            } => self.started(config, boot_started_ms),
-            Record::NextRequest { now_ms } => requests::next_request(self, now_ms),
-            Record::MarkRequestQueued { request, now_ms } => {
-                requests::mark_request_queued(self, request, now_ms)
+        let manager = self.manager;
+        let done = manage(manager, record);
+        let after = done.manager;
+        let left = done.left;
+        let mut unit = self;
+        unit.opened = true;
+        unit.manager = after;
+        match left {
+            Left::Answer(answer) => Stepped { unit, answer },
+            Left::Entry(entry) => {
+                let books = unit.books;
+                let entered = books.entered(entry);
+                let kept = entered.books;
+                let answer = entered.answer;
+                unit.books = kept;
+                Stepped { unit, answer }
             }
-            Record::ActuatorAck { ack, now_ms } => requests::on_actuator_ack(self, ack, now_ms),
-            Record::PollTimeout { now_ms } => requests::poll_timeout(self, now_ms),
-            Record::WireByte {
-                byte,
-                observed_at_ms,
-            } => wire::push_wire_byte(self, byte, observed_at_ms),
-            Record::WireDiscontinuity => wire::record_wire_discontinuity(self),
-            Record::TryRecover { armed, now_ms } => recovery::try_recover(self, armed, now_ms),
-            Record::TakeBackAfterRetries => recovery::take_back_after_retries(self),
-            Record::RefreshWireStats => wire::refresh_wire_stats(self),
-            Record::IdleCheck {
-                config,
-                started_at_ms,
-            } => idle::idle_check(self, config, started_at_ms),
-            Record::IdleStatus { now_ms } => idle::idle_status(self, now_ms),
-            Record::Report => report::report(self),
-            Record::StoredSample { output } => report::stored_sample(self, output),
-            Record::Figures { output } => report::figures(self, output),
         }
-    }
-
-    // 00 starts everything anew.
-    fn started(self, config: EscManagerConfig, boot_started_ms: u64) -> Stepped
-        ensures { λ r. ⌜ r ≡ stepOf (self .manager) (self .books) (Record.Open config «boot_started_ms») ⌝ }
-    {
-        let manager = EscManager::new(config, boot_started_ms);
-        let books = Books::new();
-        let unit = self.with_manager(manager);
-        Stepped {
-            unit: unit.with_books(books),
-            answer: Answer::Done,
-        }
-    }
-
-    // The opened unit with each part as it was, and with one part replaced.
-    fn kept(self) -> Unit
-        ensures { λ r. ⌜ r ≡ unitOf (self .manager) (self .books) ⌝ }
-    {
-        let mut unit = self;
-        unit.opened = true;
-        unit
-    }
-
-    fn with_manager(self, manager: EscManager) -> Unit
-        ensures { λ r. ⌜ r ≡ unitOf manager (self .books) ⌝ }
-    {
-        let mut unit = self;
-        unit.opened = true;
-        unit.manager = manager;
-        unit
-    }
-
-    fn with_books(self, books: Books) -> Unit
-        ensures { λ r. ⌜ r ≡ unitOf (self .manager) books ⌝ }
-    {
-        let mut unit = self;
-        unit.opened = true;
-        unit.books = books;
-        unit
     }
 }
 
 // Whether it is a 00.
-fn opens(record: Record) -> bool
+pub(crate) fn opens(record: Record) -> bool
     ensures { λ r. ⌜ r ≡ opens «record» ⌝ }
 {
     if let Record::Open {

@@ -2,7 +2,7 @@
 use borrow.Author.Needs.{needs}
 use native.Mathlib.Omega.{arith}
 use mathlib.Core.Path.{_≡_, _∙_, sym, ap}
-use lib.ListN.{length, take, length-take}
+use lib.ListN.{take, length-take}
 use Rattle.blheli_telemetry.specs.Crc.{crcOf}
 use Rattle.blheli_telemetry.specs.Frame.{payloadOf}
 use Rattle.blheli_telemetry.proofs.FrameLaws.{short-reply, short-kept, room-reply, room-written, payload-front}

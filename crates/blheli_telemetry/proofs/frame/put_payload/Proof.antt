@@ -2,8 +2,6 @@
 use borrow.Author.Needs.{needs}
 use native.Mathlib.Omega.{arith}
 use mathlib.Core.Path.{_≡_, _∙_}
-use Prim.Native.Nat.{ℕ}
-use mathlib.Core.List.{List}
 use lib.ListN.{length, length-set}
 use Rattle.blheli_telemetry.proofs.FrameLaws.{payload-built}
 use Rattle.blheli_telemetry.proofs.frame.put_payload.Statement.{statement}

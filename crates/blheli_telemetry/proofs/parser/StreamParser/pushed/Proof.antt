@@ -9,17 +9,20 @@ use Rattle.blheli_telemetry.proofs.ParserLaws.{push-few, push-tenth}
 use Rattle.blheli_telemetry.proofs.parser.StreamParser.pushed.Statement.{statement}
 use Rattle.blheli_telemetry.proofs.parser.StreamParser.pushed.Tie as tie
 
-array-write-bytes : tie.Need-array-write-bytes
-array-write-bytes c = search needs
+collects-requires : tie.Need-collects-requires
+collects-requires c κs = search needs
 
-add-t17 : tie.Need-add-t17
-add-t17 c = search needs
+collected-requires : tie.Need-collected-requires
+collected-requires c κs = search needs
 
 returns : tie.Need-returns
-returns c = sym (push-few (c .before .before .before .args .self) (c .before .before .before .args .byte) (c .if1 .taken))
+returns c =
+    let a = c .before .before .before .args in
+    let few = sym (c .before .before .collects .ensures) ∙ c .before .if1 .taken in
+    rw (c .collected .ensures, few) (sym (push-few (a .self) (a .byte) few))
 
-array-write-bytes-2 : tie.Need-array-write-bytes-2
-array-write-bytes-2 c = search needs
+array-write-bytes : tie.Need-array-write-bytes
+array-write-bytes c = search needs
 
 slice-aggregate-decode : tie.Need-slice-aggregate-decode
 slice-aggregate-decode c = search needs
@@ -39,11 +42,12 @@ counted-bad-requires c κs = search needs
 returns-2 : tie.Need-returns-2
 returns-2 c =
     let d = c .before .before .before in
-    let few = d .before .before in
-    let p = few .before .before .before .args .self in
-    let f = set (p .bytes) 9 (few .before .before .before .args .byte) in
+    let few = d .before .before .before .before in
+    let p = few .before .before .args .self in
+    let byte = few .before .before .args .byte in
+    let f = set (p .bytes) 9 byte in
     rw (c .counted-bad .ensures, c .before .shifted-down .ensures)
-    (sym (push-tenth p (few .before .before .before .args .byte) (few .if1 .left)
+    (sym (push-tenth p byte (sym (few .before .collects .ensures) ∙ few .if1 .left)
     ∙ ap (completed f (p .stats)) (sym (d .decode .ensures))
     ∙ completed-refused f (p .stats) (decoded (d .decode .result)) (refused-else (d .decode .result) (c .before .before .match .keys2))))
 
@@ -53,21 +57,21 @@ counted-good-requires c κs = search needs
 returns-3 : tie.Need-returns-3
 returns-3 c =
     let d = c .before .before .before .before in
-    let few = d .before .before in
-    let p = few .before .before .before .args .self in
-    let f = set (p .bytes) 9 (few .before .before .before .args .byte) in
+    let few = d .before .before .before .before in
+    let p = few .before .before .args .self in
+    let byte = few .before .before .args .byte in
     rw (c .counted-good .ensures)
-    (sym (push-tenth p (few .before .before .before .args .byte) (few .if1 .left)
-    ∙ ap (completed f (p .stats)) (sym (d .decode .ensures) ∙ ap decoded (c .before .before .sample .given .1))))
+    (sym (push-tenth p byte (sym (few .before .collects .ensures) ∙ few .if1 .left)
+    ∙ ap (completed (set (p .bytes) 9 byte) (p .stats)) (sym (d .decode .ensures) ∙ ap decoded (c .before .before .sample .given .1))))
 
 pub pushed-spec : {M : Type 1} → statement M
 pushed-spec =
     tie.close
     (tie.spec
-    array-write-bytes
-    add-t17
+    collects-requires
+    collected-requires
     returns
-    array-write-bytes-2
+    array-write-bytes
     slice-aggregate-decode
     decode-requires
     enum-known-sample
