@@ -4,7 +4,7 @@ use mathlib.Core.List.{List, [], _∷_, _++_, append-assoc}
 use Prim.Native.Nat.{ℕ, zero, suc, _+_, _-_, _/_, _%_, _<_, _≤_}
 use native.Mathlib.Omega.{arith}
 use native.Mathlib.Nat.{add-zero, add-suc, not-suc-le-zero, le-of-suc-le-suc}
-use lib.ListN.{length, set, take, drop, length-append, take-append-drop}
+use lib.ListN.{length, set, drop, length-append, take-append-drop}
 use lib.Seq.{take-set-le}
 use Rattle.blheli_telemetry.specs.BigEndian.{bytesOf, overwrite}
 use Rattle.blheli_telemetry.proofs.BigEndianLaws.{overwrite-append}

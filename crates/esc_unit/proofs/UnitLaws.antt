@@ -12,7 +12,9 @@ use Rattle.esc_unit.specs.Answer.{answerBytes}
 use Rattle.esc_unit.specs.Unit.{Replied, stepOf, opens, refusing, accepting, enter, ifRoom, callOn, callOf, outputAfter}
 use Rattle.esc_unit.specs.declared.record.Record.{Record}
 use Rattle.esc_unit.specs.declared.answer.Answer.{Answer}
+use Rattle.esc_unit.specs.Admission.{admittedOn, admittedOf, onAdmitted}
 use Rattle.esc_unit.specs.declared.unit.Unit.{Unit}
+use Rattle.esc_unit.specs.declared.unit.Stepped.{Stepped}
 
 -- one of two tests is enough
 either : (a b c : Bool) (x y : Replied) → a || b ≡ c → pick a x (pick b x y) ≡ pick c x y
@@ -29,38 +31,42 @@ module _ (u : Unit) (r : Record) where
   unfolding enter
   enter-accepted e = either (u .opened) (opens r) true _ _ e
 
-  -- nothing but 8 is refused here
-  pub enter-keeps : (n : ℕ) → enter u r .reply ≡ refused n → enter u r ≡ refusing u 8
-  enter-keeps n e = go (u .opened || opens r) refl
-    where
-      go : (b : Bool) → u .opened || opens r ≡ b → enter u r ≡ refusing u 8
-      go false t = enter-refused t
-      go true t =
-          absurd (false≢true (sym (ap isAccepted e) ∙ ap (λ (s : Replied). isAccepted (s .reply)) (enter-accepted t)))
+module _ (opened : Bool) (s : List ℕ) where
+  pub admitted-unread : (n : ℕ) → readRecord s ≡ refused n → admittedOf opened s ≡ refused n
+  unfolding admittedOf
+  admitted-unread n e = ap (admittedOn opened) e
 
-module _ (u : Unit) (room : ℕ) where
-  -- 4 to 7
-  pub call-unread : (s : List ℕ) (n : ℕ) → readRecord s ≡ refused n → callOf u s room ≡ refusing u n
-  unfolding callOf
-  call-unread s n e = ap (callOn u room) e
+  admitted-read : (r : Record) (b : Bool) → readRecord s ≡ accepted r → opened || opens r ≡ b → admittedOf opened s ≡ pick b (accepted r) (refused 8)
+  unfolding admittedOf
+  admitted-read r b e t = ap (admittedOn opened) e ∙ ap (λ (x : Bool). pick x (accepted r) (refused 8)) t
 
-  pub call-read : (s : List ℕ) (r : Record) → readRecord s ≡ accepted r → callOf u s room ≡ callOn u room (accepted r)
-  unfolding callOf
-  call-read s r e = ap (callOn u room) e
+  pub admitted-open : (r : Record) → readRecord s ≡ accepted r → opened ≡ true → admittedOf opened s ≡ accepted r
+  admitted-open r e o = admitted-read r true e (ap (λ (x : Bool). x || opens r) o)
 
-  module _ (r : Record) where
-    pub call-unopened : (n : ℕ) → enter u r .reply ≡ refused n → callOn u room (accepted r) ≡ refusing u 8
-    call-unopened n e = ap (ifRoom u room (enter u r)) e ∙ enter-keeps u r n e
+  pub admitted-shut : (r : Record) (b : Bool) → readRecord s ≡ accepted r → opened ≡ false → opens r ≡ b
+      → admittedOf opened s ≡ pick b (accepted r) (refused 8)
+  admitted-shut r b e o t = admitted-read r b e (ap (λ (x : Bool). x || opens r) o ∙ t)
 
-    module _ (a : Answer) (e : enter u r .reply ≡ accepted a) where
-      roomed : (b : Bool) → leb (length (answerBytes a)) room ≡ b → callOn u room (accepted r) ≡ pick b (enter u r) (refusing u 9)
-      roomed b l = ap (ifRoom u room (enter u r)) e ∙ ap (λ (x : Bool). pick x (enter u r) (refusing u 9)) l
+-- a call is its record's admission, and then its answer
+pub call-admission : (u : Unit) (s : List ℕ) (room : ℕ) → callOf u s room ≡ onAdmitted u room (admittedOf (u .opened) s)
+unfolding callOf admittedOf
+call-admission u s room = go (readRecord s)
+  where
+    taken : (r : Record) (b : Bool) → u .opened || opens r ≡ b → callOn u room (accepted r) ≡ onAdmitted u room (pick b (accepted r) (refused 8))
+    taken r true e = ap (λ (k : Replied). ifRoom u room k (k .reply)) (enter-accepted u r e)
+    taken r false e = ap (λ (k : Replied). ifRoom u room k (k .reply)) (enter-refused u r e)
 
-      pub call-no-room : leb (length (answerBytes a)) room ≡ false → callOn u room (accepted r) ≡ refusing u 9
-      call-no-room l = roomed false l
+    go : (q : Reply Record) → callOn u room q ≡ onAdmitted u room (admittedOn (u .opened) q)
+    go (refused n) = refl
+    go (accepted r) = taken r (u .opened || opens r) refl
 
-      pub call-answered : leb (length (answerBytes a)) room ≡ true → callOn u room (accepted r) ≡ enter u r
-      call-answered l = roomed true l
+-- 4 to 8
+pub call-refused : (u : Unit) (s : List ℕ) (room n : ℕ) → admittedOf (u .opened) s ≡ refused n → callOf u s room ≡ refusing u n
+call-refused u s room n e = call-admission u s room ∙ ap (onAdmitted u room) e
+
+pub call-taken : (u : Unit) (s : List ℕ) (room : ℕ) (r : Record) → admittedOf (u .opened) s ≡ accepted r
+    → callOf u s room ≡ onAdmitted u room (accepted r)
+call-taken u s room r e = call-admission u s room ∙ ap (onAdmitted u room) e
 
 -- a refused call leaves the unit and the lent output as found
 pub record Kept (u : Unit) (out : List ℕ) (k : Replied) : Type 0 where
@@ -68,21 +74,20 @@ pub record Kept (u : Unit) (out : List ℕ) (k : Replied) : Type 0 where
   pub output : outputAfter (k .reply) out ≡ out
 
 module _ (u : Unit) (room n : ℕ) where
-  kept-entered : (r : Record) (q : Reply Answer) → enter u r .reply ≡ q
-      → callOn u room (accepted r) .reply ≡ refused n → callOn u room (accepted r) .unit ≡ u
-  kept-entered r (refused m) e h = ap (λ (k : Replied). k .unit) (call-unopened u room r m e)
-  kept-entered r (accepted a) e h = go (leb (length (answerBytes a)) room) refl
-    where
-      go : (b : Bool) → leb (length (answerBytes a)) room ≡ b → callOn u room (accepted r) .unit ≡ u
-      go false l = ap (λ (k : Replied). k .unit) (call-no-room u room r a e l)
-      go true l =
-          absurd (false≢true (sym (ap isAccepted h) ∙ ap (λ (k : Replied). isAccepted (k .reply)) (call-answered u room r a e l) ∙ ap isAccepted e))
+  kept-roomed : (s : Stepped) (b : Bool) → pick b (accepting s) (refusing u 9) .reply ≡ refused n → pick b (accepting s) (refusing u 9) .unit ≡ u
+  kept-roomed s true h = absurd (false≢true (sym (ap isAccepted h)))
+  kept-roomed s false h = refl
 
-  kept-read : (q : Reply Record) → callOn u room q .reply ≡ refused n → callOn u room q .unit ≡ u
-  kept-read (refused m) h = refl
-  kept-read (accepted r) h = kept-entered r (enter u r .reply) refl h
+  kept-admitted : (q : Reply Record) → onAdmitted u room q .reply ≡ refused n → onAdmitted u room q .unit ≡ u
+  kept-admitted (refused m) h = refl
+  kept-admitted (accepted r) h = kept-roomed (stepOf (u .manager) (u .books) r) (leb (length (answerBytes (stepOf (u .manager) (u .books) r .answer))) room) h
 
 pub refusal-keeps : (u : Unit) (s : List ℕ) (room : ℕ) (out : List ℕ) (n : ℕ)
     → callOf u s room .reply ≡ refused n → Kept u out (callOf u s room)
-unfolding callOf outputAfter
-refusal-keeps u s room out n e = record { unit = kept-read u room n (readRecord s) e; output = ap (λ (q : Reply Answer). outputAfter q out) e }
+unfolding outputAfter
+refusal-keeps u s room out n e =
+    let by = call-admission u s room in
+    record {
+      unit = ap (λ (k : Replied). k .unit) by ∙ kept-admitted u room n (admittedOf (u .opened) s) (sym (ap (λ (k : Replied). k .reply) by) ∙ e);
+      output = ap (λ (q : Reply Answer). outputAfter q out) e;
+    }

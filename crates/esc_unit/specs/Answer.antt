@@ -18,7 +18,6 @@ use Rattle.esc_feedback.specs.declared.answer.BackAfterRetries.{BackAfterRetrie
 use Rattle.esc_feedback.specs.declared.answer.BackAfterRetries.the-variants as back
 use Rattle.esc_feedback.specs.declared.idle_verdict.EscIdleQualificationFailure.{EscIdleQualificationFailure}
 use Rattle.esc_feedback.specs.declared.idle_verdict.EscIdleQualificationFailure.the-variants as failure
-use Rattle.esc_feedback.specs.declared.idle_verdict.EscIdleQualificationStatus.{EscIdleQualificationStatus}
 use Rattle.esc_feedback.specs.declared.idle_verdict.EscIdleQualificationStatus.the-variants as idle
 use Rattle.esc_unit.specs.declared.figures.Figure.{Figure}
 use Rattle.esc_unit.specs.declared.answer.IdleAnswer.{IdleAnswer}

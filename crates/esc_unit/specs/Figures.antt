@@ -1,6 +1,5 @@
 -- Figures per lane (document 01): samples delivered (saturating), largest temperature byte, lowest voltage; all 0 before the first.
-use Prim.Native.Nat.{ℕ, min, max}
-use mathlib.Core.List.{List}
+use Prim.Native.Nat.{min, max}
 use lib.Dec.{eqb}
 use lib.ListN.{getD, set, replicate}
 use Rattle.blheli_telemetry.specs.Choice.{pick}

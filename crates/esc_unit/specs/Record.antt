@@ -1,8 +1,8 @@
 -- The records (document 01, 'Records'): the fields of each kind, and the refusals 4 to 7 in their order.
-use Prim.Native.Nat.{ℕ, _+_, _<_}
+use Prim.Native.Nat.{ℕ, _+_}
 use mathlib.Core.Bool.{Bool, true, false}
 use mathlib.Core.List.{List, [], _∷_}
-use lib.Dec.{eqb, leb, ltb}
+use lib.Dec.{eqb, leb}
 use lib.ListN.{length, getD}
 use Rattle.blheli_telemetry.specs.Choice.{pick}
 use Rattle.blheli_telemetry.specs.Reply.{Reply, accepted, refused}
@@ -10,7 +10,6 @@ use Rattle.blheli_telemetry.specs.BigEndian.{numberAt}
 use Rattle.esc_feedback.specs.declared.output.EscOutput.{EscOutput}
 use Rattle.esc_feedback.specs.declared.output.Lane.the-variants.{Output1, Output2, Output3, Output4}
 use Rattle.esc_feedback.specs.declared.request.EscActuatorRequest.{EscActuatorRequest}
-use Rattle.esc_feedback.specs.declared.request.EscActuatorAck.{EscActuatorAck}
 use Rattle.esc_feedback.specs.declared.config.EscManagerConfig.{EscManagerConfig}
 use Rattle.esc_feedback.specs.declared.idle_config.EscIdleQualificationConfig.{EscIdleQualificationConfig}
 use Rattle.esc_unit.specs.declared.record.Record.{Record}

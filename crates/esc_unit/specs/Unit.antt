@@ -20,7 +20,6 @@ use Rattle.esc_feedback.specs.declared.answer.EscAckOutcome.the-variants as out
 use Rattle.esc_feedback.specs.declared.answer.WireUpdate.{WireUpdate}
 use Rattle.esc_feedback.specs.declared.answer.WireUpdate.the-variants as update
 use Rattle.esc_feedback.specs.declared.manager.EscManager.{EscManager}
-use Rattle.esc_feedback.specs.declared.manager.TakenBack.{TakenBack}
 use Rattle.esc_unit.specs.Record.{readRecord}
 use Rattle.esc_unit.specs.Answer.{answerBytes}
 use Rattle.esc_unit.specs.Figures.{figureAt}

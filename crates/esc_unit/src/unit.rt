@@ -1,6 +1,9 @@
 // The unit: one manager and its books, one call for each record.
+mod admission;
 mod call;
 
+pub use admission::Admitted;
+pub use admission::admit;
 pub use call::CallReply;
 pub use call::Called;
 ghost use mathlib.Core.Path.{_≡_};

@@ -22,11 +22,7 @@ pub fn next_request(manager: EscManager, now_ms: u64) -> Managed
     }
 }
 
-pub fn mark_request_queued(
-    manager: EscManager,
-    request: EscActuatorRequest,
-    now_ms: u64,
-) -> Managed
+pub fn mark_request_queued(manager: EscManager, request: EscActuatorRequest, now_ms: u64) -> Managed
     ensures { λ r. ⌜ r ≡ managedBy manager (Record.MarkRequestQueued request «now_ms») ⌝ }
 {
     let marked = manager.mark_request_queued(request, now_ms);

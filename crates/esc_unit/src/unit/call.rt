@@ -2,13 +2,13 @@
 ghost use mathlib.Core.Path.{_≡_};
 ghost use lib.ListN.{length};
 ghost use Rattle.blheli_telemetry.specs.Reply.{accepted};
-ghost use Rattle.esc_unit.specs.Unit.{callOn, callOf, outputAfter, lengthOf};
+ghost use Rattle.esc_unit.specs.Unit.{callOf, outputAfter, lengthOf};
+ghost use Rattle.esc_unit.specs.Admission.{onAdmitted};
 ghost use Rattle.esc_unit.specs.Replies.{callReply};
 use crate::record::Record;
-use crate::record::RecordRead;
-use crate::record::read_record;
-use crate::unit::StepReply;
+use crate::unit::Admitted;
 use crate::unit::Unit;
+use crate::unit::admit;
 use crate::write::AnswerWritten;
 use crate::write::write_answer;
 
@@ -31,27 +31,21 @@ impl Unit {
         ensures { λ r. ⌜ callReply (r .reply) ≡ lengthOf (callOf self (now («record» .entry)) (length (now (out .entry))) .reply) ⌝ }
         ensures { λ _. ⌜ now (out .exit) ≡ outputAfter (callOf self (now («record» .entry)) (length (now (out .entry))) .reply) (now (out .entry)) ⌝ }
     {
-        let read = read_record(record);
-        match read {
-            RecordRead::Record(known) => self.called(known, out),
-            RecordRead::Kind => self.refused(4),
-            RecordRead::Length => self.refused(5),
-            RecordRead::Lane => self.refused(6),
-            RecordRead::Flag => self.refused(7),
+        let taken = admit(self.opened, record);
+        match taken {
+            Admitted::Record(known) => self.answered(known, out),
+            Admitted::Refused(number) => self.refused(number),
         }
     }
 
-    // The call, once its record is read.
-    fn called(self, record: Record, out: &mut [u8]) -> Called
-        ensures { λ r. ⌜ r .unit ≡ callOn self (length (now (out .entry))) (accepted «record») .unit ⌝ }
-        ensures { λ r. ⌜ callReply (r .reply) ≡ lengthOf (callOn self (length (now (out .entry))) (accepted «record») .reply) ⌝ }
-        ensures { λ _. ⌜ now (out .exit) ≡ outputAfter (callOn self (length (now (out .entry))) (accepted «record») .reply) (now (out .entry)) ⌝ }
+    // The call, once its record is taken.
+    fn answered(self, record: Record, out: &mut [u8]) -> Called
+        ensures { λ r. ⌜ r .unit ≡ onAdmitted self (length (now (out .entry))) (accepted «record») .unit ⌝ }
+        ensures { λ r. ⌜ callReply (r .reply) ≡ lengthOf (onAdmitted self (length (now (out .entry))) (accepted «record») .reply) ⌝ }
+        ensures { λ _. ⌜ now (out .exit) ≡ outputAfter (onAdmitted self (length (now (out .entry))) (accepted «record») .reply) (now (out .entry)) ⌝ }
     {
-        let stepped = self.step(record);
-        let reply = stepped.reply;
-        let StepReply::Answer(answer) = reply else {
-            return self.refused(8);
-        };
+        let stepped = self.stepped(record);
+        let answer = stepped.answer;
         let written = write_answer(answer, out);
         let AnswerWritten::Written(count) = written else {
             return self.refused(9);
