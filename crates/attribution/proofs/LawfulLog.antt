@@ -1,0 +1,115 @@
+-- Each entry of a log is a 00 or a record with the rule's answer to it, since every reply is the rule's.
+use mathlib.Core.Path.{_≡_, refl, sym, _∙_, ap, subst}
+use mathlib.Core.List.{List, [], _∷_}
+use mathlib.Core.Option.{Option, none, some}
+use mathlib.Core.Bool.{Bool, true, false}
+use Prim.Native.Nat.{ℕ}
+use lib.Dec.{leb}
+use lib.ListN.{length}
+use Rattle.blheli_telemetry.specs.Choice.{pick}
+use Rattle.blheli_telemetry.specs.Reply.{Reply, accepted, refused}
+use Rattle.esc_feedback.specs.declared.config.EscManagerConfig.{EscManagerConfig}
+use Rattle.esc_unit.specs.Record.{readRecord}
+use Rattle.esc_unit.specs.Answer.{answerBytes}
+use Rattle.esc_unit.specs.Unit.{opens}
+use Rattle.esc_unit.specs.declared.record.Record.{Record}
+use Rattle.esc_unit.specs.declared.record.Record.the-variants as kind
+use Rattle.esc_unit.specs.declared.answer.Answer.{Answer}
+use Rattle.esc_unit.specs.declared.answer.Answer.the-variants as answer
+use Rattle.booking.specs.History.{Call, History, Since, seen, then, sinceEvent, since}
+use Rattle.booking.specs.Rule.{answerTo, replyTo, withRoom, replyOn, ruleFor, traceOf}
+use Rattle.booking.specs.Run.{run}
+use Rattle.booking.proofs.Traced.{traced}
+use Rattle.attribution.specs.Marks.{Marked, MarkedHistory, Entry, Log, entered, runMarked, logOf, logAfter, sinceIn}
+use Rattle.attribution.proofs.Unseen.{callsOf, eventsOf, unseen}
+
+pub data Lawful : Log → Type 0 where
+  start : Lawful []
+  opened : {l : Log} (c : EscManagerConfig) (t : ℕ) (o : Option ℕ) → Lawful l → Lawful (record { seen = seen (kind.Open c t) answer.Done; origin = o } ∷ l)
+  more : {l : Log} (s : Since) (r : Record) (o : Option ℕ) → sinceIn l ≡ some s → opens r ≡ false → Lawful l
+    → Lawful (record { seen = seen r (answerTo (s .opening) (s .past) r); origin = o } ∷ l)
+
+-- a reply that there is room for is entered, any other passed over
+fitting : (l : Log) (r : Record) (a : Answer) (o : Option ℕ) (room : ℕ) → Lawful l → Lawful (record { seen = seen r a; origin = o } ∷ l)
+    → Lawful (entered (accepted r) (withRoom room (accepted a)) o l)
+fitting l r a o room i j = go (leb (length (answerBytes a)) room)
+  where
+    go : (z : Bool) → Lawful (entered (accepted r) (pick z (accepted a) (refused 9)) o l)
+    go true = j
+    go false = i
+
+module _ (l : Log) (o : Option ℕ) (room : ℕ) (i : Lawful l) where
+  never-opened : (r : Record) → Lawful (entered (accepted r) (withRoom room (replyTo none r)) o l)
+  never-opened (kind.Open c t) = fitting l (kind.Open c t) answer.Done o room i (opened c t o i)
+  never-opened (kind.NextRequest now) = i
+  never-opened (kind.MarkRequestQueued q now) = i
+  never-opened (kind.ActuatorAck k now) = i
+  never-opened (kind.PollTimeout now) = i
+  never-opened (kind.WireByte b now) = i
+  never-opened kind.WireDiscontinuity = i
+  never-opened (kind.TryRecover armed now) = i
+  never-opened kind.TakeBackAfterRetries = i
+  never-opened kind.RefreshWireStats = i
+  never-opened (kind.IdleCheck c t) = i
+  never-opened (kind.IdleStatus now) = i
+  never-opened kind.Report = i
+  never-opened (kind.StoredSample n) = i
+  never-opened (kind.Figures n) = i
+
+  module _ (s : Since) (e : sinceIn l ≡ some s) where
+    opened-more : (r : Record) → opens r ≡ false → Lawful (entered (accepted r) (withRoom room (replyTo (some s) r)) o l)
+    opened-more r f = fitting l r (answerTo (s .opening) (s .past) r) o room i (more s r o e f i)
+
+    opened-before : (r : Record) → Lawful (entered (accepted r) (withRoom room (replyTo (some s) r)) o l)
+    opened-before (kind.Open c t) = fitting l (kind.Open c t) answer.Done o room i (opened c t o i)
+    opened-before (kind.NextRequest now) = opened-more (kind.NextRequest now) refl
+    opened-before (kind.MarkRequestQueued q now) = opened-more (kind.MarkRequestQueued q now) refl
+    opened-before (kind.ActuatorAck k now) = opened-more (kind.ActuatorAck k now) refl
+    opened-before (kind.PollTimeout now) = opened-more (kind.PollTimeout now) refl
+    opened-before (kind.WireByte b now) = opened-more (kind.WireByte b now) refl
+    opened-before kind.WireDiscontinuity = opened-more kind.WireDiscontinuity refl
+    opened-before (kind.TryRecover armed now) = opened-more (kind.TryRecover armed now) refl
+    opened-before kind.TakeBackAfterRetries = opened-more kind.TakeBackAfterRetries refl
+    opened-before kind.RefreshWireStats = opened-more kind.RefreshWireStats refl
+    opened-before (kind.IdleCheck c t) = opened-more (kind.IdleCheck c t) refl
+    opened-before (kind.IdleStatus now) = opened-more (kind.IdleStatus now) refl
+    opened-before kind.Report = opened-more kind.Report refl
+    opened-before (kind.StoredSample n) = opened-more (kind.StoredSample n) refl
+    opened-before (kind.Figures n) = opened-more (kind.Figures n) refl
+
+  lawful-entry : (s : Option Since) → sinceIn l ≡ s → (x : Reply Record) → Lawful (entered x (replyOn room s x) o l)
+  lawful-entry s e (refused n) = i
+  lawful-entry none e (accepted r) = never-opened r
+  lawful-entry (some s) e (accepted r) = opened-before s e r
+
+-- each reply is the rule's to what was fed and answered before
+abbrev ByRule : History → Type 0
+ByRule [] = Unit {0}
+ByRule (e ∷ h) = (e .reply ≡ ruleFor h (e .call)) × ByRule h
+
+trace-by-rule : (cs : List Call) (h : History) → ByRule h → ByRule (traceOf h cs)
+unfolding traceOf
+trace-by-rule [] h i = i
+trace-by-rule (c ∷ cs) h i = trace-by-rule cs (record { call = c; reply = ruleFor h c } ∷ h) (refl, i)
+
+-- a log and its history have the same latest 00 and the same past
+since-in : (h : MarkedHistory) → since (eventsOf h) ≡ sinceIn (logOf h)
+unfolding since sinceIn logOf
+since-in [] = refl
+since-in (e ∷ h) = go (readRecord (e .event .call .bytes)) (e .event .reply) (since-in h)
+  where
+    go : (x : Reply Record) (y : Reply Answer) → since (eventsOf h) ≡ sinceIn (logOf h)
+        → sinceEvent x y (since (eventsOf h)) ≡ sinceIn (entered x y (e .origin) (logOf h))
+    go (refused n) y i = i
+    go (accepted r) (refused n) i = i
+    go (accepted r) (accepted a) i = ap (then (seen r a .opening) (seen r a)) i
+
+lawful-log : (h : MarkedHistory) → ByRule (eventsOf h) → Lawful (logOf h)
+unfolding logOf ruleFor
+lawful-log [] i = start
+lawful-log (e ∷ h) (k, i) =
+    subst (λ (y : Reply Answer). Lawful (entered (readRecord (e .event .call .bytes)) y (e .origin) (logOf h))) (sym k)
+    (lawful-entry (logOf h) (e .origin) (e .event .call .room) (lawful-log h i) (since (eventsOf h)) (sym (since-in h)) (readRecord (e .event .call .bytes)))
+
+pub lawful-after : (ms : List Marked) → Lawful (logAfter ms)
+lawful-after ms = lawful-log (runMarked ms) (subst ByRule (sym (traced (callsOf ms)) ∙ sym (unseen ms)) (trace-by-rule (callsOf ms) [] tt))

@@ -1,0 +1,58 @@
+-- The claim: a delivered sample was read from the bytes that its own request made an ESC send, and from nothing else.
+use Prim.Native.Nat.{ℕ}
+use mathlib.Core.Path.{_≡_}
+use mathlib.Core.List.{List, [], _∷_, _++_, map}
+use mathlib.Core.Option.{some}
+use lib.ListN.{length}
+use Rattle.blheli_telemetry.specs.Crc.{crcOf}
+use Rattle.blheli_telemetry.specs.Frame.{telemetryOf}
+use Rattle.esc_feedback.specs.declared.request.EscActuatorRequest.{EscActuatorRequest}
+use Rattle.esc_feedback.specs.declared.request.EscTelemetryUpdate.{EscTelemetryUpdate}
+use Rattle.booking.specs.History.{Byte}
+use Rattle.attribution.specs.Marks.{Marked, Entry, Log, logAfter}
+use Rattle.attribution.specs.Origin.{requests, sentBy}
+use Rattle.attribution.specs.Wiring.{noFault, Wiring}
+use Rattle.attribution.specs.Times.{Timing}
+use Rattle.attribution.specs.Cutting.{Cutting}
+
+abbrev pub values : List Byte → List ℕ
+values bs = map (λ (b : Byte). b .value) bs
+
+-- the request that a sample is booked to
+abbrev pub bookedOn : EscTelemetryUpdate → EscActuatorRequest
+bookedOn u = record { sequence = u .observation .«request_sequence»; output = u .output }
+
+-- the request that the sample is booked to is the latest granted, and all that this request made an ESC send, as far as it came in, is
+-- nine bytes and their check byte, which are what the sample says, the last at the sample's time
+pub record CameFrom (l : Log) (u : EscTelemetryUpdate) : Type 0 where
+  pub earlier : List EscActuatorRequest
+  pub latest : requests l ≡ bookedOn u ∷ earlier
+  pub nine : List Byte
+  pub check : Byte
+  pub sent : sentBy (length earlier) l ≡ nine ++ check ∷ []
+  pub count : length nine ≡ 9
+  pub checks : check .value ≡ crcOf (values nine)
+  pub says : u .observation .sample ≡ telemetryOf (values (nine ++ check ∷ []))
+  pub when : check .at ≡ u .observation .«observed_at_ms»
+
+-- after every list of calls fed to a unit never opened: where its newest accepted record delivers a sample and what is assumed holds
+-- up to there
+abbrev AttributedIf : (Log → Type 0) → Type 0
+AttributedIf Assumed =
+    (ms : List Marked) (e : Entry) (l : Log) (u : EscTelemetryUpdate)
+    → logAfter ms ≡ e ∷ l
+    → e .seen .requests .delivered ≡ some u
+    → Assumed (e ∷ l)
+    → CameFrom (e ∷ l) u
+
+-- with the five assumptions, of bytes taken in while no fault stands
+abbrev pub Attributed : Type 0
+Attributed = AttributedIf (Wiring noFault)
+
+-- with times in place of the two on quiet
+abbrev pub AttributedByTimes : Type 0
+AttributedByTimes = AttributedIf Timing
+
+-- of a caller that cuts before each request, with the five assumptions of bytes taken in while a request is open
+abbrev pub AttributedByCuts : Type 0
+AttributedByCuts = AttributedIf Cutting
