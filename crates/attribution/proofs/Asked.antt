@@ -1,0 +1,239 @@
+-- What is known while a request is open: it is the latest granted, all before it have sent what they had to send, and the bytes that
+-- the wire holds are its own. So the first ten of them that are a frame are all that it sends.
+use mathlib.Core.Path.{_≡_, refl, sym, _∙_, ap, subst}
+use mathlib.Core.List.{List, [], _∷_, _++_, append-assoc, append-nil, map-append}
+use mathlib.Core.Option.{Option, none, some, Option·none-ne-some, Option·some-ne-none, Option·some-injective}
+use mathlib.Core.Bool.{Bool, true, false}
+use Prim.Native.Nat.{ℕ, zero, suc, _+_, _≤_, _<_}
+use native.Mathlib.Omega.{arith}
+use lib.ListN.{length, length-append, length-map}
+use lib.Dec.{eqb}
+use borrow.Author.Tests.{eq-eqb}
+use Rattle.blheli_telemetry.specs.Crc.{crcOf}
+use Rattle.blheli_telemetry.specs.Frame.{telemetryOf}
+use Rattle.blheli_telemetry.specs.Choice.{pick}
+use Rattle.blheli_telemetry.proofs.ByCases.{below-or-not}
+use Rattle.esc_feedback.specs.declared.request.EscActuatorRequest.{EscActuatorRequest}
+use Rattle.booking.specs.Maybe.{is, orElse}
+use Rattle.booking.specs.History.{Byte, Past}
+use Rattle.booking.specs.Wire.{OnWire, byte, cut, Frame, wire, latest, frameAt, frameIn, timed}
+use Rattle.booking.specs.Booking.{latestFrame, booked}
+use Rattle.attribution.specs.Marks.{Entry, Log}
+use Rattle.attribution.specs.Origin.{requests, sentBy, atRecovery, atOpening}
+use Rattle.attribution.specs.Attributed.{values, CameFrom}
+use Rattle.attribution.proofs.Latest.{Clean, latest-none, Extends, extends, latest-length, Ended, ended, clean-more}
+use Rattle.attribution.proofs.Spent.{Spent, requests-keep, spent-keeps, Origin, none-left}
+
+-- the last bytes of a list have these values
+pub record EndsWith (all : List Byte) (bs : List ℕ) : Type 0 where
+  pub before : List Byte
+  pub last : List Byte
+  pub whole : all ≡ before ++ last
+  pub same : values last ≡ bs
+
+-- the bytes on the wire since the latest cut or frame end are among those of request k
+abbrev pub Own : Log → Past → ℕ → Type 0
+Own l h k = (n : ℕ) (bs : List ℕ) → latest (wire h) n ≡ some bs → EndsWith (sentBy k l) bs
+
+-- a frame is all that request k sent
+pub record Kept (l : Log) (k : ℕ) (f : Frame) : Type 0 where
+  pub nine : List Byte
+  pub check : Byte
+  pub sent : sentBy k l ≡ nine ++ check ∷ []
+  pub count : length nine ≡ 9
+  pub checks : check .value ≡ crcOf (values nine)
+  pub bytes : f .bytes ≡ values (nine ++ check ∷ [])
+  pub when : check .at ≡ f .at
+
+pub record Asked (l : Log) (h : Past) (q : EscActuatorRequest) : Type 0 where
+  pub earlier : List EscActuatorRequest
+  pub newest : requests l ≡ q ∷ earlier
+  pub spent : Spent l (length earlier)
+  pub own : latestFrame h ≡ none → Own l h (length earlier)
+  pub kept : (f : Frame) → latestFrame h ≡ some f → Kept l (length earlier) f
+
+pub came : (l : Log) (h : Past) (q : EscActuatorRequest) (f : Frame) → Asked l h q → latestFrame h ≡ some f → CameFrom l (booked q f)
+came l h q f a e =
+    let k = a .kept f e in
+    record {
+      earlier = a .earlier;
+      latest = a .newest;
+      nine = k .nine;
+      check = k .check;
+      sent = k .sent;
+      count = k .count;
+      checks = k .checks;
+      says = ap telemetryOf (k .bytes);
+      when = k .when;
+    }
+
+-- with its frame, nothing is left to send
+pub all-spent : (l : Log) (h : Past) (q : EscActuatorRequest) (f : Frame) → Asked l h q → latestFrame h ≡ some f → Spent l (length (requests l))
+all-spent l h q f a e k i r o = below-or-not k (length (a .earlier)) (λ b. a .spent k b r o) (λ b. own (omega (arith, n)))
+  where
+    x : Kept l (length (a .earlier)) f
+    x = a .kept f e
+
+    n : length (requests l) ≡ suc (length (a .earlier))
+    n = ap length (a .newest)
+
+    own : k ≡ length (a .earlier) → 10 ≤ length (sentBy k l)
+    own z =
+        let c = x .count in
+        rw (z, x .sent, length-append (x .nine) (x .check ∷ [])) (omega arith)
+
+no-bytes : (l : Log) (w : List OnWire) (k : ℕ) (bs : List ℕ) → latest w 0 ≡ some bs → EndsWith (sentBy k l) bs
+no-bytes l w k bs e =
+    record { before = sentBy k l; last = []; whole = sym (append-nil (sentBy k l)); same = Option·some-injective _ _ (sym (latest-none w) ∙ e) }
+
+-- an empty wire holds no other's bytes
+pub own-clean : (l : Log) (h : Past) (k : ℕ) → Clean (wire h) → Own l h k
+own-clean l h k c zero bs e = no-bytes l (wire h) k bs e
+own-clean l h k c (suc n) bs e = absurd (Option·none-ne-some bs (sym (clean-more (wire h) n c) ∙ e))
+
+-- without a byte, a wire is as it was or cut
+wire-same : (h : Past) (e : Entry) → e .seen .wire .byte ≡ none → (c : Bool) → e .seen .wire .cut ≡ c → wire (e .seen ∷ h) ≡ pick c (cut ∷ wire h) (wire h)
+unfolding wire
+wire-same h e b true x = rw (b, x)
+wire-same h e b false x = rw (b, x)
+
+pub clean-keeps : (h : Past) (e : Entry) → e .seen .wire .byte ≡ none → Clean (wire h) → Clean (wire (e .seen ∷ h))
+unfolding latest
+clean-keeps h e b i = go (e .seen .wire .cut) refl
+  where
+    go : (c : Bool) → e .seen .wire .cut ≡ c → Clean (wire (e .seen ∷ h))
+    go true x = ap (λ (w : List OnWire). latest w 1) (wire-same h e b true x)
+    go false x = ap (λ (w : List OnWire). latest w 1) (wire-same h e b false x) ∙ i
+
+-- a frame end gives the latest frame
+pub latest-now : (h : Past) (e : Entry) → e .seen .requests .granted ≡ none → (b : Byte) → e .seen .wire .byte ≡ some b → (f : List ℕ) → frameAt (wire h) (b .value) ≡ some f
+    → latestFrame (e .seen ∷ h) ≡ some (record { bytes = f; at = b .at })
+unfolding latestFrame
+latest-now h e g b x f y = rw (g, x, y)
+
+values-more : (bs : List Byte) (b : Byte) → values (bs ++ b ∷ []) ≡ values bs ++ b .value ∷ []
+values-more bs b = map-append _ bs (b ∷ [])
+
+no-more : (bs : List Byte) → length bs ≡ 0 → bs ≡ []
+no-more [] e = refl
+no-more (b ∷ bs) e = absurd (omega arith)
+
+module _ (l : Log) (h : Past) (e : Entry) (g : e .seen .requests .granted ≡ none) (o : e .seen .opening ≡ none) (r : e .seen .requests .recovered ≡ false) where
+  -- without a byte: a cut takes bytes off the wire, and nothing puts one there
+  module _ (b : e .seen .wire .byte ≡ none) where
+    sent-same : (k : ℕ) → sentBy k (e ∷ l) ≡ sentBy k l
+    unfolding sentBy
+    sent-same k = rw b
+
+    pub frame-same : latestFrame (e .seen ∷ h) ≡ latestFrame h
+    unfolding latestFrame
+    frame-same = rw (g, b)
+
+    latest-same : (n : ℕ) (bs : List ℕ) → latest (wire (e .seen ∷ h)) n ≡ some bs → latest (wire h) n ≡ some bs
+    unfolding latest
+    latest-same n bs = go (e .seen .wire .cut) refl n
+      where
+        go : (c : Bool) → e .seen .wire .cut ≡ c → (n : ℕ) → latest (wire (e .seen ∷ h)) n ≡ some bs → latest (wire h) n ≡ some bs
+        go true x zero y = latest-none (wire h) ∙ sym (latest-none (wire (e .seen ∷ h))) ∙ y
+        go true x (suc n) y = absurd (Option·none-ne-some bs (ap (λ (w : List OnWire). latest w (suc n)) (sym (wire-same h e b true x)) ∙ y))
+        go false x n y = ap (λ (w : List OnWire). latest w n) (sym (wire-same h e b false x)) ∙ y
+
+    pub asked-same : (q : EscActuatorRequest) → Asked l h q → Asked (e ∷ l) (e .seen ∷ h) q
+    asked-same q a =
+        record {
+          earlier = a .earlier;
+          newest = requests-keep l e g ∙ a .newest;
+          spent = spent-keeps l e o r (length (a .earlier)) (a .spent);
+          own = λ f n bs x. rw (sent-same (length (a .earlier))) (a .own (sym frame-same ∙ f) n bs (latest-same n bs x));
+          kept = λ f x. kept′ f (a .kept f (sym frame-same ∙ x));
+        }
+      where
+        kept′ : (f : Frame) → Kept l (length (a .earlier)) f → Kept (e ∷ l) (length (a .earlier)) f
+        kept′ f k = record { nine = k .nine; check = k .check; sent = sent-same _ ∙ k .sent; count = k .count; checks = k .checks; bytes = k .bytes; when = k .when }
+
+  -- with a byte: its origin is the open request, since all others are spent
+  module _ (b : Byte) (x : e .seen .wire .byte ≡ some b) (m : Origin l (e .origin)) (q : EscActuatorRequest) (a : Asked l h q) where
+    own-number : m .number ≡ length (a .earlier)
+    own-number = below-or-not (m .number) (length (a .earlier)) earlier later
+      where
+        earlier : m .number < length (a .earlier) → m .number ≡ length (a .earlier)
+        earlier i =
+            let s = a .spent (m .number) i (m .recovered) (m .opened) in
+            let f = m .few in
+            absurd (omega arith)
+
+        later : length (a .earlier) ≤ m .number → m .number ≡ length (a .earlier)
+        later i =
+            let g′ = m .granted in
+            omega (arith, ap length (a .newest))
+
+    sent-more : sentBy (length (a .earlier)) (e ∷ l) ≡ sentBy (length (a .earlier)) l ++ b ∷ []
+    unfolding sentBy
+    sent-more = rw (x, m .known, eq-eqb (m .number) (length (a .earlier)) own-number)
+
+    few-sent : length (sentBy (length (a .earlier)) l) < 10
+    few-sent = subst (λ (k : ℕ). length (sentBy k l) < 10) own-number (m .few)
+
+    wire-more : wire (e .seen ∷ h) ≡ byte (b .value) ∷ wire h
+    unfolding wire
+    wire-more = rw x
+
+    -- the parts of the open request, by whether the byte ends a frame
+    module _ (y : latestFrame h ≡ none) where
+      pub frame-more : latestFrame (e .seen ∷ h) ≡ timed (frameAt (wire h) (b .value)) (b .at)
+      unfolding latestFrame
+      frame-more = rw (g, x, y) (go (timed (frameAt (wire h) (b .value)) (b .at)))
+        where
+          go : (f : Option Frame) → orElse f none ≡ f
+          go none = refl
+          go (some f) = refl
+
+      own-more : Own (e ∷ l) (e .seen ∷ h) (length (a .earlier))
+      own-more zero bs z = no-bytes (e ∷ l) (wire (e .seen ∷ h)) (length (a .earlier)) bs z
+      own-more (suc n) bs z =
+          let t = extends (wire h) (b .value) n bs (ap (λ (w : List OnWire). latest w (suc n)) (sym wire-more) ∙ z) in
+          let i = a .own y n (t .shorter) (t .before) in
+          record {
+            before = i .before;
+            last = i .last ++ b ∷ [];
+            whole = sent-more ∙ ap (λ (s : List Byte). s ++ b ∷ []) (i .whole) ∙ append-assoc (i .before) (i .last) (b ∷ []);
+            same = values-more (i .last) b ∙ ap (λ (s : List ℕ). s ++ b .value ∷ []) (i .same) ∙ t .whole;
+          }
+
+      kept-more : (f : List ℕ) → frameAt (wire h) (b .value) ≡ some f → Kept (e ∷ l) (length (a .earlier)) (record { bytes = f; at = b .at })
+      kept-more f z =
+          let t = ended (wire h) (b .value) f z in
+          let i = a .own y 9 (t .nine) (t .before) in
+          let c : length (i .last) ≡ 9 = sym (length-map (i .last) _) ∙ ap length (i .same) ∙ latest-length (wire h) 9 (t .nine) (t .before) in
+          let n : length (i .before) + length (i .last) < 10 = rw (i .whole, length-append (i .before) (i .last)) at few-sent in
+          let all : sentBy (length (a .earlier)) l ≡ i .last = i .whole ∙ ap (λ (s : List Byte). s ++ i .last) (no-more (i .before) (omega arith)) in
+          record {
+            nine = i .last;
+            check = b;
+            sent = sent-more ∙ ap (λ (s : List Byte). s ++ b ∷ []) all;
+            count = c;
+            checks = t .checks ∙ ap crcOf (sym (i .same));
+            bytes = t .whole ∙ ap (λ (s : List ℕ). s ++ b .value ∷ []) (sym (i .same)) ∙ sym (values-more (i .last) b);
+            when = refl;
+          }
+
+    pub asked-more : Asked (e ∷ l) (e .seen ∷ h) q
+    asked-more = go (latestFrame h) refl
+      where
+        ending : latestFrame h ≡ none → (t : Option (List ℕ)) → frameAt (wire h) (b .value) ≡ t → Asked (e ∷ l) (e .seen ∷ h) q
+        ending y t z =
+            record {
+              earlier = a .earlier;
+              newest = requests-keep l e g ∙ a .newest;
+              spent = spent-keeps l e o r (length (a .earlier)) (a .spent);
+              own = λ f. own-more y;
+              kept = λ f k. kept-by t z f (sym (frame-more y) ∙ k);
+            }
+          where
+            kept-by : (t : Option (List ℕ)) → frameAt (wire h) (b .value) ≡ t → (f : Frame) → timed (frameAt (wire h) (b .value)) (b .at) ≡ some f → Kept (e ∷ l) (length (a .earlier)) f
+            kept-by none z f k = absurd (Option·none-ne-some f (rw z at k))
+            kept-by (some t) z f k = subst (Kept (e ∷ l) (length (a .earlier))) (Option·some-injective _ _ (rw z at k)) (kept-more y t z)
+
+        go : (x : Option Frame) → latestFrame h ≡ x → Asked (e ∷ l) (e .seen ∷ h) q
+        go none y = ending y (frameAt (wire h) (b .value)) refl
+        go (some f) y = absurd (none-left l (e .origin) m (all-spent l h q f a y))
