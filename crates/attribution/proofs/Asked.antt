@@ -92,10 +92,14 @@ own-clean l h k c zero bs e = no-bytes l (wire h) k bs e
 own-clean l h k c (suc n) bs e = absurd (Option·none-ne-some bs (sym (clean-more (wire h) n c) ∙ e))
 
 -- without a byte, a wire is as it was or cut
-wire-same : (h : Past) (e : Entry) → e .seen .wire .byte ≡ none → (c : Bool) → e .seen .wire .cut ≡ c → wire (e .seen ∷ h) ≡ pick c (cut ∷ wire h) (wire h)
+pub wire-same : (h : Past) (e : Entry) → e .seen .wire .byte ≡ none → (c : Bool) → e .seen .wire .cut ≡ c → wire (e .seen ∷ h) ≡ pick c (cut ∷ wire h) (wire h)
 unfolding wire
 wire-same h e b true x = rw (b, x)
 wire-same h e b false x = rw (b, x)
+
+pub wire-more : (h : Past) (e : Entry) (b : Byte) → e .seen .wire .byte ≡ some b → wire (e .seen ∷ h) ≡ byte (b .value) ∷ wire h
+unfolding wire
+wire-more h e b x = rw x
 
 pub clean-keeps : (h : Past) (e : Entry) → e .seen .wire .byte ≡ none → Clean (wire h) → Clean (wire (e .seen ∷ h))
 unfolding latest
@@ -174,13 +178,9 @@ module _ (l : Log) (h : Past) (e : Entry) (g : e .seen .requests .granted ≡ no
     few-sent : length (sentBy (length (a .earlier)) l) < 10
     few-sent = subst (λ (k : ℕ). length (sentBy k l) < 10) own-number (m .few)
 
-    wire-more : wire (e .seen ∷ h) ≡ byte (b .value) ∷ wire h
-    unfolding wire
-    wire-more = rw x
-
     -- the parts of the open request, by whether the byte ends a frame
     module _ (y : latestFrame h ≡ none) where
-      pub frame-more : latestFrame (e .seen ∷ h) ≡ timed (frameAt (wire h) (b .value)) (b .at)
+      frame-more : latestFrame (e .seen ∷ h) ≡ timed (frameAt (wire h) (b .value)) (b .at)
       unfolding latestFrame
       frame-more = rw (g, x, y) (go (timed (frameAt (wire h) (b .value)) (b .at)))
         where
@@ -191,7 +191,7 @@ module _ (l : Log) (h : Past) (e : Entry) (g : e .seen .requests .granted ≡ no
       own-more : Own (e ∷ l) (e .seen ∷ h) (length (a .earlier))
       own-more zero bs z = no-bytes (e ∷ l) (wire (e .seen ∷ h)) (length (a .earlier)) bs z
       own-more (suc n) bs z =
-          let t = extends (wire h) (b .value) n bs (ap (λ (w : List OnWire). latest w (suc n)) (sym wire-more) ∙ z) in
+          let t = extends (wire h) (b .value) n bs (ap (λ (w : List OnWire). latest w (suc n)) (sym (wire-more h e b x)) ∙ z) in
           let i = a .own y n (t .shorter) (t .before) in
           record {
             before = i .before;

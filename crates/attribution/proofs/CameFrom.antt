@@ -27,14 +27,14 @@ use Rattle.attribution.specs.Origin.{requests, sentBy, atRecovery, atOpe
 use Rattle.attribution.specs.Wiring.{Scope, Wiring}
 use Rattle.attribution.specs.Attributed.{CameFrom}
 use Rattle.attribution.proofs.LawfulLog.{Lawful, start, opened, more}
-use Rattle.attribution.proofs.Steps.{Shows, Step, plain, grants, takes, answers, ends, recovers′, step}
+use Rattle.attribution.proofs.Steps.{Shows, Step, plain, grants, takes, answers, ends, recovers′, step, entryOf, past-more}
+use Rattle.attribution.proofs.Calm.{Calm, calm}
 use Rattle.attribution.proofs.Latest.{Clean}
 use Rattle.attribution.proofs.Spent.{Spent, spent-keeps, all-spent-keeps, Origin, none-left, wiring-before, origin}
 use Rattle.attribution.proofs.Asked.{Asked, came, all-spent, own-clean, frame-same, clean-keeps, asked-same, latest-now, asked-more}
 
--- where a log stands: faulted, with nothing open and nothing left to come, or with a request open
+-- where a log stands: faulted, or with nothing open and nothing left to come, or with a request open
 pub record Stands (l : Log) (h : Past) : Type 0 where
-  pub calm : faulted h ≡ true → openRequest h ≡ none
   pub idle : openRequest h ≡ none → faulted h ≡ false → Spent l (length (requests l))
   pub asked : (q : Timed) → openRequest h ≡ some q → Asked l h (q .request)
 
@@ -43,12 +43,12 @@ pub record Stepped (l : Log) (h : Past) (e : Entry) : Type 0 where
   pub from : (u : EscTelemetryUpdate) → e .seen .requests .delivered ≡ some u → CameFrom (e ∷ l) u
 
 -- what a rule names of the open request is open
-record TheOpen (x : Option Timed) (q : EscActuatorRequest) : Type 0 where
-  timed′ : Timed
-  open′ : x ≡ some timed′
-  named : timed′ .request ≡ q
+pub record TheOpen (x : Option Timed) (q : EscActuatorRequest) : Type 0 where
+  pub timed′ : Timed
+  pub open′ : x ≡ some timed′
+  pub named : timed′ .request ≡ q
 
-the-open : (x : Option Timed) (ok : EscActuatorRequest → Bool) (q : EscActuatorRequest) → onlyThe x ok ≡ some q → TheOpen x q
+pub the-open : (x : Option Timed) (ok : EscActuatorRequest → Bool) (q : EscActuatorRequest) → onlyThe x ok ≡ some q → TheOpen x q
 the-open none ok q e = absurd (Option·none-ne-some q e)
 the-open (some t) ok q e = go (ok (t .request)) e
   where
@@ -59,7 +59,7 @@ the-open (some t) ok q e = go (ok (t .request)) e
 late : (n k : ℕ) → k < n → n ≤ k → ⊥
 late n k a b = omega arith
 
-module _ (o : Opening) (l : Log) (h : Past) (e : Entry) (i : Stands l h)
+module _ (o : Opening) (l : Log) (h : Past) (e : Entry) (i : Stands l h) (unasked : Calm h)
     (known : (q : Timed) → openRequest h ≡ some q → (b : Byte) → e .seen .wire .byte ≡ some b → Origin l (e .origin))
     (clean : (g : Timed) → e .seen .requests .granted ≡ some g → Clean (wire h)) where
 
@@ -72,7 +72,7 @@ module _ (o : Opening) (l : Log) (h : Past) (e : Entry) (i : Stands l h)
 
   -- no fault and no request: all is spent
   none-open : openRequest (e .seen ∷ h) ≡ none → (faulted (e .seen ∷ h) ≡ false → Spent (e ∷ l) (length (requests (e ∷ l)))) → Stands (e ∷ l) (e .seen ∷ h)
-  none-open n s = record { calm = λ f. n; idle = λ x. s; asked = λ q x. absurd (Option·none-ne-some q (sym n ∙ x)) }
+  none-open n s = record { idle = λ x. s; asked = λ q x. absurd (Option·none-ne-some q (sym n ∙ x)) }
 
   -- an entry that neither grants nor ends a request
   passes : openRequest (e .seen ∷ h) ≡ openRequest h → faulted (e .seen ∷ h) ≡ faulted h
@@ -81,7 +81,6 @@ module _ (o : Opening) (l : Log) (h : Past) (e : Entry) (i : Stands l h)
       → Stands (e ∷ l) (e .seen ∷ h)
   passes n f s a =
       record {
-        calm = λ x. n ∙ i .calm (sym f ∙ x);
         idle = λ x y. s (i .idle (sym n ∙ x) (sym f ∙ y));
         asked = λ q x. a q (sym n ∙ x);
       }
@@ -105,7 +104,6 @@ module _ (o : Opening) (l : Log) (h : Past) (e : Entry) (i : Stands l h)
       record {
         stands =
             record {
-              calm = λ x. absurd (true≢false (sym x ∙ still));
               idle = λ x. absurd (Option·some-ne-none _ (sym now-open ∙ x));
               asked = λ p x. subst (λ (t : Timed). Asked (e ∷ l) (e .seen ∷ h) (t .request)) (Option·some-injective _ _ (sym now-open ∙ x)) ask;
             };
@@ -114,9 +112,6 @@ module _ (o : Opening) (l : Log) (h : Past) (e : Entry) (i : Stands l h)
     where
       t : Timed
       t = record { request = q; at = e .seen .now }
-
-      still : faulted (e .seen ∷ h) ≡ false
-      still = rw (s .timeout, s .recovered) f
 
       now-open : openRequest (e .seen ∷ h) ≡ some t
       now-open = rw (s .delivered, s .timeout, s .granted)
@@ -201,7 +196,7 @@ module _ (o : Opening) (l : Log) (h : Past) (e : Entry) (i : Stands l h)
   unfolding openRequest requests atRecovery
   recovery-step f s =
       record {
-        stands = none-open (rw (s .delivered, s .timeout, s .granted) (i .calm f)) (λ w. nothing-before);
+        stands = none-open (rw (s .delivered, s .timeout, s .granted) (unasked f)) (λ w. nothing-before);
         from = no-sample (s .delivered);
       }
     where
@@ -219,28 +214,11 @@ module _ (o : Opening) (l : Log) (h : Past) (e : Entry) (i : Stands l h)
 stands-new : (l : Log) (c : EscManagerConfig) (t : ℕ) (o : Option ℕ) → Stands (record { seen = seen (kind.Open c t) answer.Done; origin = o } ∷ l) []
 unfolding openRequest faulted requests atOpening
 stands-new l c t o =
-    record { calm = λ f. refl; idle = λ n f k a r b. absurd (late (length (requests l)) k a b); asked = λ q x. absurd (Option·none-ne-some q x) }
+    record { idle = λ n f k a r b. absurd (late (length (requests l)) k a b); asked = λ q x. absurd (Option·none-ne-some q x) }
 
 stands-start : Stands [] []
 unfolding openRequest faulted requests
-stands-start = record { calm = λ f. refl; idle = λ n f k a r b. absurd (omega arith); asked = λ q x. absurd (Option·none-ne-some q x) }
-
--- the entry of a record that is no 00, and the past with it
-abbrev pub entryOf : Since → Record → Option ℕ → Entry
-entryOf s r o = record { seen = seen r (answerTo (s .opening) (s .past) r); origin = o }
-
-step-opening : (o : Opening) (h : Past) (e : Seen) → Step o h e → e .opening ≡ none
-step-opening o h e (plain s) = s .opening
-step-opening o h e (grants q n f s) = s .opening
-step-opening o h e (takes b s) = s .opening
-step-opening o h e (answers q s) = s .opening
-step-opening o h e (ends t s) = s .opening
-step-opening o h e (recovers′ c f w s) = s .opening
-
-pub past-more : (l : Log) (s : Since) (r : Record) (o : Option ℕ) → sinceIn l ≡ some s → opens r ≡ false
-    → past (entryOf s r o ∷ l) ≡ entryOf s r o .seen ∷ s .past
-unfolding sinceIn
-past-more l s r o x f = rw (x, step-opening (s .opening) (s .past) (entryOf s r o .seen) (step (s .opening) (s .past) r f))
+stands-start = record { idle = λ n f k a r b. absurd (omega arith); asked = λ q x. absurd (Option·none-ne-some q x) }
 
 -- each request is granted on a clean wire
 abbrev pub CleanGrants : Log → Type 0
@@ -257,7 +235,7 @@ module _ (scope : Scope) (covers : Covers scope) where
       → ((g : Timed) → entryOf s r o .seen .requests .granted ≡ some g → Clean (wire (past l)))
       → Stepped l (s .past) (entryOf s r o)
   stepped-more l s r o x f i j w c =
-      stepped (s .opening) l (s .past) (entryOf s r o) (subst (Stands l) same j)
+      stepped (s .opening) l (s .past) (entryOf s r o) (subst (Stands l) same j) (subst Calm same (calm l i))
       (λ q y b z. origin scope l (entryOf s r o) w b z (covers l i (rw (same, y))))
       (λ g y. subst (λ (h : Past). Clean (wire h)) same (c g y))
       (step (s .opening) (s .past) r f)

@@ -2,7 +2,10 @@ pub mod Unseen
 pub mod LawfulLog
 pub mod Both
 pub mod Steps
+pub mod Calm
 pub mod Latest
 pub mod Spent
 pub mod Asked
 pub mod CameFrom
+pub mod ByCuts
+pub mod Attributed

@@ -1,5 +1,6 @@
 -- What one more entry of a log can be: the rule's answer to each kind of record, by what it shows of requests, wire and openings.
 use mathlib.Core.Path.{_≡_, refl, sym, _∙_, ap}
+use mathlib.Core.List.{_∷_}
 use mathlib.Core.Option.{Option, none, some, Option·none-ne-some}
 use mathlib.Core.Bool.{Bool, true, false, not, _&&_, true≢false, false≢true}
 use Prim.Native.Nat.{ℕ, _-_, _*_, _^_, _≤_, min}
@@ -16,12 +17,13 @@ use Rattle.esc_unit.specs.declared.record.Record.the-variants as kind
 use Rattle.esc_unit.specs.declared.answer.IdleAnswer.{IdleAnswer}
 use Rattle.esc_unit.specs.declared.answer.Answer.the-variants as answer
 use Rattle.booking.specs.Maybe.{is}
-use Rattle.booking.specs.History.{Opening, Timed, Byte, Seen, Past, seen}
+use Rattle.booking.specs.History.{Opening, Timed, Byte, Seen, Past, Since, seen}
 use Rattle.booking.specs.Wire.{Frame, wire, frameAt, timed}
 use Rattle.booking.specs.Booking.{bookedTo, openRequest, latestFrame, newlyStarted, startedRequest}
 use Rattle.booking.specs.Faults.{faulted, quietSince, retries, expired, recovers}
 use Rattle.booking.specs.Turns.{existing, names}
 use Rattle.booking.specs.Rule.{ackAnswer, wireAnswerOf, answerTo}
+use Rattle.attribution.specs.Marks.{Entry, Log, sinceIn, past}
 use Rattle.attribution.proofs.Both.{and-left, and-right}
 
 -- all of an entry that attribution reads, but a cut and the time
@@ -128,3 +130,20 @@ module _ (o : Opening) (h : Past) where
   step kind.Report f = plain (shows _ refl)
   step (kind.StoredSample n) f = plain (shows _ refl)
   step (kind.Figures n) f = plain (shows _ refl)
+
+-- the entry of a record that is no 00, and the past with it
+abbrev pub entryOf : Since → Record → Option ℕ → Entry
+entryOf s r o = record { seen = seen r (answerTo (s .opening) (s .past) r); origin = o }
+
+step-opening : (o : Opening) (h : Past) (e : Seen) → Step o h e → e .opening ≡ none
+step-opening o h e (plain s) = s .opening
+step-opening o h e (grants q n f s) = s .opening
+step-opening o h e (takes b s) = s .opening
+step-opening o h e (answers q s) = s .opening
+step-opening o h e (ends t s) = s .opening
+step-opening o h e (recovers′ c f w s) = s .opening
+
+pub past-more : (l : Log) (s : Since) (r : Record) (o : Option ℕ) → sinceIn l ≡ some s → opens r ≡ false
+    → past (entryOf s r o ∷ l) ≡ entryOf s r o .seen ∷ s .past
+unfolding sinceIn
+past-more l s r o x f = rw (x, step-opening (s .opening) (s .past) (entryOf s r o .seen) (step (s .opening) (s .past) r f))
