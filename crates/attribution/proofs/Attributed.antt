@@ -122,7 +122,7 @@ module _ (o : Opening) (l : Log) (h : Past) (e : Entry) (i : Stands l h) (unaske
         idle = λ x. absurd (Option·some-ne-none _ (rw (s .delivered, s .timeout, s .granted) at x));
         held = λ q x f y. absurd (Option·none-ne-some f (rw (s .granted) at y));
       }
-  silent-step (takes b s) = byte-silent b s
+  silent-step (takes b a s) = byte-silent b s
   silent-step (answers q s) = ack-silent q s
   silent-step (ends t s) =
       record {
@@ -136,7 +136,7 @@ module _ (o : Opening) (l : Log) (h : Past) (e : Entry) (i : Stands l h) (unaske
   clean-grant : Step o h (e .seen) → (g : Timed) → e .seen .requests .granted ≡ some g → Clean (wire h)
   clean-grant (plain s) g k = absurd (Option·none-ne-some g (sym (s .granted) ∙ k))
   clean-grant (grants q n f s) g k = c .idle n f
-  clean-grant (takes b s) g k = absurd (Option·none-ne-some g (sym (s .granted) ∙ k))
+  clean-grant (takes b a s) g k = absurd (Option·none-ne-some g (sym (s .granted) ∙ k))
   clean-grant (answers q s) g k = absurd (Option·none-ne-some g (sym (s .granted) ∙ k))
   clean-grant (ends t s) g k = absurd (Option·none-ne-some g (sym (s .granted) ∙ k))
   clean-grant (recovers′ x f w s) g k = absurd (Option·none-ne-some g (sym (s .granted) ∙ k))

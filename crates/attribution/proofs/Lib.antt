@@ -9,3 +9,4 @@ pub mod Asked
 pub mod CameFrom
 pub mod ByCuts
 pub mod Attributed
+pub mod ByTimes

@@ -22,6 +22,7 @@ use Rattle.booking.specs.Wire.{Frame, wire, frameAt, timed}
 use Rattle.booking.specs.Booking.{bookedTo, openRequest, latestFrame, newlyStarted, startedRequest}
 use Rattle.booking.specs.Faults.{faulted, quietSince, retries, expired, recovers}
 use Rattle.booking.specs.Turns.{existing, names}
+use Rattle.booking.specs.Claims.{pastOf}
 use Rattle.booking.specs.Rule.{ackAnswer, wireAnswerOf, answerTo}
 use Rattle.attribution.specs.Marks.{Entry, Log, sinceIn, past}
 use Rattle.attribution.proofs.Both.{and-left, and-right}
@@ -41,7 +42,7 @@ pub data Step (o : Opening) (h : Past) (e : Seen) : Type 0 where
   -- a 02 answered yes: none was open and no fault stood
   grants : (q : EscActuatorRequest) → openRequest h ≡ none → faulted h ≡ false → Shows e (some (record { request = q; at = e .now })) none none none false → Step o h e
   -- a 05
-  takes : (b : ℕ) → Shows e none (some (record { value = b; at = e .now })) (bookedTo (startedRequest h) (timed (frameAt (wire h) b) (e .now))) none false → Step o h e
+  takes : (b : ℕ) → e .requests .acknowledged ≡ none → Shows e none (some (record { value = b; at = e .now })) (bookedTo (startedRequest h) (timed (frameAt (wire h) b) (e .now))) none false → Step o h e
   -- a 03
   answers : (q : EscActuatorRequest) → Shows e none none (bookedTo (newlyStarted h q) (latestFrame h)) none false → Step o h e
   -- a 04 answered with a timeout
@@ -93,7 +94,7 @@ module _ (o : Opening) (h : Past) where
 
   byte-step : (b now : ℕ) (says : EscTelemetryUpdate → IdleAnswer)
       → Step o h (seen (kind.WireByte b now) (answer.Wire (wireAnswerOf (bookedTo (startedRequest h) (timed (frameAt (wire h) b) now)) says)))
-  byte-step b now says = takes b (go (bookedTo (startedRequest h) (timed (frameAt (wire h) b) now)))
+  byte-step b now says = takes b refl (go (bookedTo (startedRequest h) (timed (frameAt (wire h) b) now)))
     where
       go : (u : Option EscTelemetryUpdate) → Shows (seen (kind.WireByte b now) (answer.Wire (wireAnswerOf u says))) none (some (record { value = b; at = now })) u none false
       go none = shows _ refl
@@ -131,19 +132,23 @@ module _ (o : Opening) (h : Past) where
   step (kind.StoredSample n) f = plain (shows _ refl)
   step (kind.Figures n) f = plain (shows _ refl)
 
--- the entry of a record that is no 00, and the past with it
+-- the entry of a record that is no 00, and what has come since the opening with it
 abbrev pub entryOf : Since → Record → Option ℕ → Entry
 entryOf s r o = record { seen = seen r (answerTo (s .opening) (s .past) r); origin = o }
 
 step-opening : (o : Opening) (h : Past) (e : Seen) → Step o h e → e .opening ≡ none
 step-opening o h e (plain s) = s .opening
 step-opening o h e (grants q n f s) = s .opening
-step-opening o h e (takes b s) = s .opening
+step-opening o h e (takes b a s) = s .opening
 step-opening o h e (answers q s) = s .opening
 step-opening o h e (ends t s) = s .opening
 step-opening o h e (recovers′ c f w s) = s .opening
 
+pub since-more : (l : Log) (s : Since) (r : Record) (o : Option ℕ) → sinceIn l ≡ some s → opens r ≡ false
+    → sinceIn (entryOf s r o ∷ l) ≡ some (record { opening = s .opening; past = entryOf s r o .seen ∷ s .past })
+unfolding sinceIn
+since-more l s r o x f = rw (x, step-opening (s .opening) (s .past) (entryOf s r o .seen) (step (s .opening) (s .past) r f))
+
 pub past-more : (l : Log) (s : Since) (r : Record) (o : Option ℕ) → sinceIn l ≡ some s → opens r ≡ false
     → past (entryOf s r o ∷ l) ≡ entryOf s r o .seen ∷ s .past
-unfolding sinceIn
-past-more l s r o x f = rw (x, step-opening (s .opening) (s .past) (entryOf s r o .seen) (step (s .opening) (s .past) r f))
+past-more l s r o x f = ap pastOf (since-more l s r o x f)
