@@ -1,5 +1,5 @@
 -- Each entry of a log is a 00 or a record with the rule's answer to it, since every reply is the rule's.
-use mathlib.Core.Path.{_≡_, refl, sym, _∙_, ap, subst}
+use mathlib.Core.Path.{_≡_, refl, sym, ap, subst}
 use mathlib.Core.List.{List, [], _∷_}
 use mathlib.Core.Option.{Option, none, some}
 use mathlib.Core.Bool.{Bool, true, false}
@@ -16,12 +16,11 @@ use Rattle.esc_unit.specs.declared.record.Record.{Record}
 use Rattle.esc_unit.specs.declared.record.Record.the-variants as kind
 use Rattle.esc_unit.specs.declared.answer.Answer.{Answer}
 use Rattle.esc_unit.specs.declared.answer.Answer.the-variants as answer
-use Rattle.booking.specs.History.{Call, History, Since, seen, then, sinceEvent, since}
-use Rattle.booking.specs.Rule.{answerTo, replyTo, withRoom, replyOn, ruleFor, traceOf}
-use Rattle.booking.specs.Run.{run}
-use Rattle.booking.proofs.Traced.{traced}
-use Rattle.attribution.specs.Marks.{Marked, MarkedHistory, Entry, Log, entered, runMarked, logOf, logAfter, sinceIn}
-use Rattle.attribution.proofs.Unseen.{callsOf, eventsOf, unseen}
+use Rattle.booking.specs.History.{Since, seen, then, sinceEvent, since}
+use Rattle.booking.specs.Rule.{answerTo, replyTo, withRoom, replyOn, ruleFor}
+use Rattle.attribution.specs.Marks.{Marked, MarkedHistory, Log, entered, logOf, logAfter, sinceIn}
+use Rattle.attribution.proofs.Unseen.{eventsOf}
+use Rattle.attribution.proofs.ByRule.{traceMarked, marked-by-rule}
 
 pub data Lawful : Log → Type 0 where
   start : Lawful []
@@ -82,16 +81,6 @@ module _ (l : Log) (o : Option ℕ) (room : ℕ) (i : Lawful l) where
   lawful-entry none e (accepted r) = never-opened r
   lawful-entry (some s) e (accepted r) = opened-before s e r
 
--- each reply is the rule's to what was fed and answered before
-abbrev ByRule : History → Type 0
-ByRule [] = Unit {0}
-ByRule (e ∷ h) = (e .reply ≡ ruleFor h (e .call)) × ByRule h
-
-trace-by-rule : (cs : List Call) (h : History) → ByRule h → ByRule (traceOf h cs)
-unfolding traceOf
-trace-by-rule [] h i = i
-trace-by-rule (c ∷ cs) h i = trace-by-rule cs (record { call = c; reply = ruleFor h c } ∷ h) (refl, i)
-
 -- a log and its history have the same latest 00 and the same past
 since-in : (h : MarkedHistory) → since (eventsOf h) ≡ sinceIn (logOf h)
 unfolding since sinceIn logOf
@@ -104,12 +93,13 @@ since-in (e ∷ h) = go (readRecord (e .event .call .bytes)) (e .event .reply) (
     go (accepted r) (refused n) i = i
     go (accepted r) (accepted a) i = ap (then (seen r a .opening) (seen r a)) i
 
-lawful-log : (h : MarkedHistory) → ByRule (eventsOf h) → Lawful (logOf h)
-unfolding logOf ruleFor
-lawful-log [] i = start
-lawful-log (e ∷ h) (k, i) =
-    subst (λ (y : Reply Answer). Lawful (entered (readRecord (e .event .call .bytes)) y (e .origin) (logOf h))) (sym k)
-    (lawful-entry (logOf h) (e .origin) (e .event .call .room) (lawful-log h i) (since (eventsOf h)) (sym (since-in h)) (readRecord (e .event .call .bytes)))
+lawful-trace : (ms : List Marked) (h : MarkedHistory) → Lawful (logOf h) → Lawful (logOf (traceMarked h ms))
+unfolding traceMarked logOf ruleFor
+lawful-trace [] h i = i
+lawful-trace (m ∷ ms) h i =
+    lawful-trace ms (record { event = record { call = m .call; reply = ruleFor (eventsOf h) (m .call) }; origin = m .origin } ∷ h)
+    (lawful-entry (logOf h) (m .origin) (m .call .room) i (since (eventsOf h)) (sym (since-in h)) (readRecord (m .call .bytes)))
 
 pub lawful-after : (ms : List Marked) → Lawful (logAfter ms)
-lawful-after ms = lawful-log (runMarked ms) (subst ByRule (sym (traced (callsOf ms)) ∙ sym (unseen ms)) (trace-by-rule (callsOf ms) [] tt))
+unfolding logOf
+lawful-after ms = subst (λ (h : MarkedHistory). Lawful (logOf h)) (sym (marked-by-rule ms)) (lawful-trace ms [] start)

@@ -1,4 +1,5 @@
 pub mod Unseen
+pub mod ByRule
 pub mod LawfulLog
 pub mod Both
 pub mod Steps
