@@ -11,3 +11,6 @@ pub mod CameFrom
 pub mod ByCuts
 pub mod Attributed
 pub mod ByTimes
+pub mod Lists
+pub mod Refuted
+pub mod Needed
