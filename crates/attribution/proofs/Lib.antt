@@ -14,3 +14,4 @@ pub mod ByTimes
 pub mod Lists
 pub mod Refuted
 pub mod Needed
+pub mod Live

@@ -37,7 +37,7 @@ pub record CameFrom (l : Log) (u : EscTelemetryUpdate) : Type 0 where
 
 -- after every list of calls fed to a unit never opened: where its newest accepted record delivers a sample and what is assumed holds
 -- up to there
-abbrev AttributedIf : (Log → Type 0) → Type 0
+abbrev pub AttributedIf : (Log → Type 0) → Type 0
 AttributedIf Assumed =
     (ms : List Marked) (e : Entry) (l : Log) (u : EscTelemetryUpdate)
     → logAfter ms ≡ e ∷ l
