@@ -19,31 +19,29 @@ use Rattle.booking.specs.History.{Byte, Past}
 use Rattle.booking.specs.Wire.{OnWire, byte, cut, Frame, wire, latest, frameAt, frameIn, timed}
 use Rattle.booking.specs.Booking.{latestFrame, booked}
 use Rattle.attribution.specs.Marks.{Entry, Log}
-use Rattle.attribution.specs.Origin.{requests, sentBy, atRecovery, atOpening}
-use Rattle.attribution.specs.Attributed.{values, CameFrom}
+use Rattle.attribution.specs.Origin.{requests, sentBy, Taken, taken, sentAs}
+use Rattle.attribution.specs.Attributed.{values, SentFrame, CameFrom}
 use Rattle.attribution.proofs.Latest.{Clean, latest-none, Extends, extends, latest-length, Ended, ended, clean-more}
 use Rattle.attribution.proofs.Spent.{Spent, requests-keep, spent-keeps, Origin, none-left}
 
--- the last bytes of a list have these values
-pub record EndsWith (all : List Byte) (bs : List ℕ) : Type 0 where
-  pub before : List Byte
+-- the bytes that came in last are request k's and have these values
+pub record EndsWith (l : Log) (k : ℕ) (bs : List ℕ) : Type 0 where
   pub last : List Byte
-  pub whole : all ≡ before ++ last
   pub same : values last ≡ bs
+  pub before : List Byte
+  pub sent : sentBy k l ≡ before ++ last
+  pub others : List Taken
+  pub newest : taken l ≡ others ++ sentAs k last
 
--- the bytes on the wire since the latest cut or frame end are among those of request k
+-- the bytes on the wire since the latest cut or frame end are request k's
 abbrev pub Own : Log → Past → ℕ → Type 0
-Own l h k = (n : ℕ) (bs : List ℕ) → latest (wire h) n ≡ some bs → EndsWith (sentBy k l) bs
+Own l h k = (n : ℕ) (bs : List ℕ) → latest (wire h) n ≡ some bs → EndsWith l k bs
 
 -- a frame is all that request k sent
 pub record Kept (l : Log) (k : ℕ) (f : Frame) : Type 0 where
-  pub nine : List Byte
-  pub check : Byte
-  pub sent : sentBy k l ≡ nine ++ check ∷ []
-  pub count : length nine ≡ 9
-  pub checks : check .value ≡ crcOf (values nine)
-  pub bytes : f .bytes ≡ values (nine ++ check ∷ [])
-  pub when : check .at ≡ f .at
+  pub frame : SentFrame l k
+  pub bytes : f .bytes ≡ values (frame .nine ++ frame .check ∷ [])
+  pub when : frame .check .at ≡ f .at
 
 pub record Asked (l : Log) (h : Past) (q : EscActuatorRequest) : Type 0 where
   pub earlier : List EscActuatorRequest
@@ -55,24 +53,14 @@ pub record Asked (l : Log) (h : Past) (q : EscActuatorRequest) : Type 0 where
 pub came : (l : Log) (h : Past) (q : EscActuatorRequest) (f : Frame) → Asked l h q → latestFrame h ≡ some f → CameFrom l (booked q f)
 came l h q f a e =
     let k = a .kept f e in
-    record {
-      earlier = a .earlier;
-      latest = a .newest;
-      nine = k .nine;
-      check = k .check;
-      sent = k .sent;
-      count = k .count;
-      checks = k .checks;
-      says = ap telemetryOf (k .bytes);
-      when = k .when;
-    }
+    record { earlier = a .earlier; latest = a .newest; frame = k .frame; says = ap telemetryOf (k .bytes); when = k .when }
 
 -- with its frame, nothing is left to send
 pub all-spent : (l : Log) (h : Past) (q : EscActuatorRequest) (f : Frame) → Asked l h q → latestFrame h ≡ some f → Spent l (length (requests l))
 all-spent l h q f a e k i r o = below-or-not k (length (a .earlier)) (λ b. a .spent k b r o) (λ b. own (omega (arith, n)))
   where
-    x : Kept l (length (a .earlier)) f
-    x = a .kept f e
+    x : SentFrame l (length (a .earlier))
+    x = a .kept f e .frame
 
     n : length (requests l) ≡ suc (length (a .earlier))
     n = ap length (a .newest)
@@ -82,9 +70,16 @@ all-spent l h q f a e k i r o = below-or-not k (length (a .earlier)) (λ b. a .s
         let c = x .count in
         rw (z, x .sent, length-append (x .nine) (x .check ∷ [])) (omega arith)
 
-no-bytes : (l : Log) (w : List OnWire) (k : ℕ) (bs : List ℕ) → latest w 0 ≡ some bs → EndsWith (sentBy k l) bs
+no-bytes : (l : Log) (w : List OnWire) (k : ℕ) (bs : List ℕ) → latest w 0 ≡ some bs → EndsWith l k bs
 no-bytes l w k bs e =
-    record { before = sentBy k l; last = []; whole = sym (append-nil (sentBy k l)); same = Option·some-injective _ _ (sym (latest-none w) ∙ e) }
+    record {
+      last = [];
+      same = Option·some-injective _ _ (sym (latest-none w) ∙ e);
+      before = sentBy k l;
+      sent = sym (append-nil (sentBy k l));
+      others = taken l;
+      newest = sym (append-nil (taken l));
+    }
 
 -- an empty wire holds no other's bytes
 pub own-clean : (l : Log) (h : Past) (k : ℕ) → Clean (wire h) → Own l h k
@@ -118,6 +113,9 @@ latest-now h e g b x f y = rw (g, x, y)
 values-more : (bs : List Byte) (b : Byte) → values (bs ++ b ∷ []) ≡ values bs ++ b .value ∷ []
 values-more bs b = map-append _ bs (b ∷ [])
 
+sent-as-more : (k : ℕ) (bs : List Byte) (b : Byte) → sentAs k (bs ++ b ∷ []) ≡ sentAs k bs ++ sentAs k (b ∷ [])
+sent-as-more k bs b = map-append _ bs (b ∷ [])
+
 no-more : (bs : List Byte) → length bs ≡ 0 → bs ≡ []
 no-more [] e = refl
 no-more (b ∷ bs) e = absurd (omega arith)
@@ -128,6 +126,10 @@ module _ (l : Log) (h : Past) (e : Entry) (g : e .seen .requests .granted ≡ no
     sent-same : (k : ℕ) → sentBy k (e ∷ l) ≡ sentBy k l
     unfolding sentBy
     sent-same k = rw b
+
+    taken-same : taken (e ∷ l) ≡ taken l
+    unfolding taken
+    taken-same = rw b (append-nil (taken l))
 
     pub frame-same : latestFrame (e .seen ∷ h) ≡ latestFrame h
     unfolding latestFrame
@@ -142,18 +144,34 @@ module _ (l : Log) (h : Past) (e : Entry) (g : e .seen .requests .granted ≡ no
         go true x (suc n) y = absurd (Option·none-ne-some bs (ap (λ (w : List OnWire). latest w (suc n)) (sym (wire-same h e b true x)) ∙ y))
         go false x n y = ap (λ (w : List OnWire). latest w n) (sym (wire-same h e b false x)) ∙ y
 
+    still-ends : (k : ℕ) (bs : List ℕ) → EndsWith l k bs → EndsWith (e ∷ l) k bs
+    still-ends k bs i = record { last = i .last; same = i .same; before = i .before; sent = sent-same k ∙ i .sent; others = i .others; newest = taken-same ∙ i .newest }
+
+    still-sent : (k : ℕ) → SentFrame l k → SentFrame (e ∷ l) k
+    still-sent k f =
+        record {
+          nine = f .nine;
+          check = f .check;
+          count = f .count;
+          checks = f .checks;
+          sent = sent-same k ∙ f .sent;
+          others = f .others;
+          newest = taken-same ∙ f .newest;
+        }
+
+    still-kept : (k : ℕ) (f : Frame) → Kept l k f → Kept (e ∷ l) k f
+    unfolding still-sent
+    still-kept k f i = record { frame = still-sent k (i .frame); bytes = i .bytes; when = i .when }
+
     pub asked-same : (q : EscActuatorRequest) → Asked l h q → Asked (e ∷ l) (e .seen ∷ h) q
     asked-same q a =
         record {
           earlier = a .earlier;
           newest = requests-keep l e g ∙ a .newest;
           spent = spent-keeps l e o r (length (a .earlier)) (a .spent);
-          own = λ f n bs x. rw (sent-same (length (a .earlier))) (a .own (sym frame-same ∙ f) n bs (latest-same n bs x));
-          kept = λ f x. kept′ f (a .kept f (sym frame-same ∙ x));
+          own = λ f n bs x. still-ends (length (a .earlier)) bs (a .own (sym frame-same ∙ f) n bs (latest-same n bs x));
+          kept = λ f x. still-kept (length (a .earlier)) f (a .kept f (sym frame-same ∙ x));
         }
-      where
-        kept′ : (f : Frame) → Kept l (length (a .earlier)) f → Kept (e ∷ l) (length (a .earlier)) f
-        kept′ f k = record { nine = k .nine; check = k .check; sent = sent-same _ ∙ k .sent; count = k .count; checks = k .checks; bytes = k .bytes; when = k .when }
 
   -- with a byte: its origin is the open request, since all others are spent
   module _ (b : Byte) (x : e .seen .wire .byte ≡ some b) (m : Origin l (e .origin)) (q : EscActuatorRequest) (a : Asked l h q) where
@@ -175,6 +193,13 @@ module _ (l : Log) (h : Past) (e : Entry) (g : e .seen .requests .granted ≡ no
     unfolding sentBy
     sent-more = rw (x, m .known, eq-eqb (m .number) (length (a .earlier)) own-number)
 
+    taken-more : (others : List Taken) (bs : List Byte) → taken l ≡ others ++ sentAs (length (a .earlier)) bs
+        → taken (e ∷ l) ≡ others ++ sentAs (length (a .earlier)) (bs ++ b ∷ [])
+    unfolding taken
+    taken-more others bs z =
+        rw (x, m .known, own-number, z, sent-as-more (length (a .earlier)) bs b)
+        (append-assoc others (sentAs (length (a .earlier)) bs) (sentAs (length (a .earlier)) (b ∷ [])))
+
     few-sent : length (sentBy (length (a .earlier)) l) < 10
     few-sent = subst (λ (k : ℕ). length (sentBy k l) < 10) own-number (m .few)
 
@@ -194,10 +219,12 @@ module _ (l : Log) (h : Past) (e : Entry) (g : e .seen .requests .granted ≡ no
           let t = extends (wire h) (b .value) n bs (ap (λ (w : List OnWire). latest w (suc n)) (sym (wire-more h e b x)) ∙ z) in
           let i = a .own y n (t .shorter) (t .before) in
           record {
-            before = i .before;
             last = i .last ++ b ∷ [];
-            whole = sent-more ∙ ap (λ (s : List Byte). s ++ b ∷ []) (i .whole) ∙ append-assoc (i .before) (i .last) (b ∷ []);
             same = values-more (i .last) b ∙ ap (λ (s : List ℕ). s ++ b .value ∷ []) (i .same) ∙ t .whole;
+            before = i .before;
+            sent = sent-more ∙ ap (λ (s : List Byte). s ++ b ∷ []) (i .sent) ∙ append-assoc (i .before) (i .last) (b ∷ []);
+            others = i .others;
+            newest = taken-more (i .others) (i .last) (i .newest);
           }
 
       kept-more : (f : List ℕ) → frameAt (wire h) (b .value) ≡ some f → Kept (e ∷ l) (length (a .earlier)) (record { bytes = f; at = b .at })
@@ -205,14 +232,19 @@ module _ (l : Log) (h : Past) (e : Entry) (g : e .seen .requests .granted ≡ no
           let t = ended (wire h) (b .value) f z in
           let i = a .own y 9 (t .nine) (t .before) in
           let c : length (i .last) ≡ 9 = sym (length-map (i .last) _) ∙ ap length (i .same) ∙ latest-length (wire h) 9 (t .nine) (t .before) in
-          let n : length (i .before) + length (i .last) < 10 = rw (i .whole, length-append (i .before) (i .last)) at few-sent in
-          let all : sentBy (length (a .earlier)) l ≡ i .last = i .whole ∙ ap (λ (s : List Byte). s ++ i .last) (no-more (i .before) (omega arith)) in
+          let n : length (i .before) + length (i .last) < 10 = rw (i .sent, length-append (i .before) (i .last)) at few-sent in
+          let all : sentBy (length (a .earlier)) l ≡ i .last = i .sent ∙ ap (λ (s : List Byte). s ++ i .last) (no-more (i .before) (omega arith)) in
           record {
-            nine = i .last;
-            check = b;
-            sent = sent-more ∙ ap (λ (s : List Byte). s ++ b ∷ []) all;
-            count = c;
-            checks = t .checks ∙ ap crcOf (sym (i .same));
+            frame =
+                record {
+                  nine = i .last;
+                  check = b;
+                  count = c;
+                  checks = t .checks ∙ ap crcOf (sym (i .same));
+                  sent = sent-more ∙ ap (λ (s : List Byte). s ++ b ∷ []) all;
+                  others = i .others;
+                  newest = taken-more (i .others) (i .last) (i .newest);
+                };
             bytes = t .whole ∙ ap (λ (s : List ℕ). s ++ b .value ∷ []) (sym (i .same)) ∙ sym (values-more (i .last) b);
             when = refl;
           }

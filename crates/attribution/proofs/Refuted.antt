@@ -33,8 +33,8 @@ ownBy (q ∷ qs) l = length (sentBy (length qs) l)
 
 own-ten : (l : Log) (u : EscTelemetryUpdate) → CameFrom l u → ownBy (requests l) l ≡ 10
 own-ten l u c =
-    let n = c .count in
-    rw (c .latest, c .sent, length-append (c .nine) (c .check ∷ [])) (omega arith)
+    let f = c .frame in
+    rw (c .latest, f .sent, length-append (f .nine) (f .check ∷ [])) (omega (arith, f .count))
 
 abbrev pub deliversIn : Log → Bool
 deliversIn [] = false

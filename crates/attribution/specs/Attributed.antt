@@ -10,7 +10,7 @@ use Rattle.esc_feedback.specs.declared.request.EscActuatorRequest.{EscActuatorR
 use Rattle.esc_feedback.specs.declared.request.EscTelemetryUpdate.{EscTelemetryUpdate}
 use Rattle.booking.specs.History.{Byte}
 use Rattle.attribution.specs.Marks.{Marked, Entry, Log, logAfter}
-use Rattle.attribution.specs.Origin.{requests, sentBy}
+use Rattle.attribution.specs.Origin.{requests, sentBy, Taken, taken, sentAs}
 use Rattle.attribution.specs.Wiring.{noFault, Wiring}
 use Rattle.attribution.specs.Times.{Timing}
 use Rattle.attribution.specs.Cutting.{Cutting}
@@ -22,18 +22,24 @@ values bs = map (λ (b : Byte). b .value) bs
 abbrev pub bookedOn : EscTelemetryUpdate → EscActuatorRequest
 bookedOn u = record { sequence = u .observation .«request_sequence»; output = u .output }
 
+-- all that request k made an ESC send, as far as it came in, is nine bytes and their check byte, and no byte came in after them
+pub record SentFrame (l : Log) (k : ℕ) : Type 0 where
+  pub nine : List Byte
+  pub check : Byte
+  pub count : length nine ≡ 9
+  pub checks : check .value ≡ crcOf (values nine)
+  pub sent : sentBy k l ≡ nine ++ check ∷ []
+  pub others : List Taken
+  pub newest : taken l ≡ others ++ sentAs k (nine ++ check ∷ [])
+
 -- the request that the sample is booked to is the latest granted, and all that this request made an ESC send, as far as it came in, is
--- nine bytes and their check byte, which are what the sample says, the last at the sample's time
+-- the sample's nine bytes and their check byte, the last at the sample's time
 pub record CameFrom (l : Log) (u : EscTelemetryUpdate) : Type 0 where
   pub earlier : List EscActuatorRequest
   pub latest : requests l ≡ bookedOn u ∷ earlier
-  pub nine : List Byte
-  pub check : Byte
-  pub sent : sentBy (length earlier) l ≡ nine ++ check ∷ []
-  pub count : length nine ≡ 9
-  pub checks : check .value ≡ crcOf (values nine)
-  pub says : u .observation .sample ≡ telemetryOf (values (nine ++ check ∷ []))
-  pub when : check .at ≡ u .observation .«observed_at_ms»
+  pub frame : SentFrame l (length earlier)
+  pub says : u .observation .sample ≡ telemetryOf (values (frame .nine ++ frame .check ∷ []))
+  pub when : frame .check .at ≡ u .observation .«observed_at_ms»
 
 -- after every list of calls fed to a unit never opened: where its newest accepted record delivers a sample and what is assumed holds
 -- up to there

@@ -1,7 +1,6 @@
 -- The requests of a log by their numbers, and what each of them made an ESC send.
 use Prim.Native.Nat.{ℕ}
-use mathlib.Core.Bool.{Bool}
-use mathlib.Core.List.{List, [], _∷_, _++_}
+use mathlib.Core.List.{List, [], _∷_, _++_, map}
 use mathlib.Core.Option.{Option, none, some}
 use lib.Dec.{eqb}
 use lib.ListN.{length}
@@ -29,6 +28,24 @@ addByte k (some j) (some b) bs = pick (eqb j k) (bs ++ b ∷ []) bs
 unfoldable pub sentBy : ℕ → Log → List Byte
 sentBy k [] = []
 sentBy k (e ∷ l) = addByte k (e .origin) (e .seen .wire .byte) (sentBy k l)
+
+-- a byte taken in, and its origin
+pub record Taken : Type 0 where
+  pub byte : Byte
+  pub origin : Option ℕ
+
+abbrev pub takenIn : Option ℕ → Option Byte → List Taken
+takenIn origin none = []
+takenIn origin (some b) = record { byte = b; origin = origin } ∷ []
+
+-- all bytes taken in, oldest first
+unfoldable pub taken : Log → List Taken
+taken [] = []
+taken (e ∷ l) = taken l ++ takenIn (e .origin) (e .seen .wire .byte)
+
+-- bytes as request k made an ESC send them
+abbrev pub sentAs : ℕ → List Byte → List Taken
+sentAs k bs = map (λ (b : Byte). record { byte = b; origin = some k }) bs
 
 -- how many requests had been granted at the latest 07 answered yes
 unfoldable pub atRecovery : Log → ℕ
