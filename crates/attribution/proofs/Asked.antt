@@ -2,26 +2,25 @@
 -- the wire holds are its own. So the first ten of them that are a frame are all that it sends.
 use mathlib.Core.Path.{_≡_, refl, sym, _∙_, ap, subst}
 use mathlib.Core.List.{List, [], _∷_, _++_, append-assoc, append-nil, map-append}
-use mathlib.Core.Option.{Option, none, some, Option·none-ne-some, Option·some-ne-none, Option·some-injective}
+use mathlib.Core.Option.{Option, none, some, Option·none-ne-some, Option·some-injective}
 use mathlib.Core.Bool.{Bool, true, false}
 use Prim.Native.Nat.{ℕ, zero, suc, _+_, _≤_, _<_}
 use native.Mathlib.Omega.{arith}
 use lib.ListN.{length, length-append, length-map}
-use lib.Dec.{eqb}
 use borrow.Author.Tests.{eq-eqb}
 use Rattle.blheli_telemetry.specs.Crc.{crcOf}
 use Rattle.blheli_telemetry.specs.Frame.{telemetryOf}
 use Rattle.blheli_telemetry.specs.Choice.{pick}
 use Rattle.blheli_telemetry.proofs.ByCases.{below-or-not}
 use Rattle.esc_feedback.specs.declared.request.EscActuatorRequest.{EscActuatorRequest}
-use Rattle.booking.specs.Maybe.{is, orElse}
+use Rattle.booking.specs.Maybe.{orElse}
 use Rattle.booking.specs.History.{Byte, Past}
-use Rattle.booking.specs.Wire.{OnWire, byte, cut, Frame, wire, latest, frameAt, frameIn, timed}
+use Rattle.booking.specs.Wire.{OnWire, byte, cut, Frame, wire, latest, frameAt, timed}
 use Rattle.booking.specs.Booking.{latestFrame, booked}
 use Rattle.attribution.specs.Marks.{Entry, Log}
 use Rattle.attribution.specs.Origin.{requests, sentBy, Taken, taken, sentAs}
 use Rattle.attribution.specs.Attributed.{values, SentFrame, CameFrom}
-use Rattle.attribution.proofs.Latest.{Clean, latest-none, Extends, extends, latest-length, Ended, ended, clean-more}
+use Rattle.attribution.proofs.Latest.{Clean, latest-none, extends, latest-length, ended, clean-more}
 use Rattle.attribution.proofs.Spent.{Spent, requests-keep, spent-keeps, Origin, none-left}
 
 -- the bytes that came in last are request k's and have these values

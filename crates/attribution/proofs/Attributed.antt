@@ -11,7 +11,7 @@ use Rattle.esc_unit.specs.Unit.{opens}
 use Rattle.esc_unit.specs.declared.record.Record.{Record}
 use Rattle.booking.specs.Maybe.{is}
 use Rattle.booking.specs.History.{Opening, Timed, Byte, Past, Since}
-use Rattle.booking.specs.Wire.{OnWire, byte, cut, Frame, wire, latest, frameAt, timed}
+use Rattle.booking.specs.Wire.{OnWire, byte, Frame, wire, latest, frameAt, timed}
 use Rattle.booking.specs.Booking.{bookedTo, openRequest, latestFrame, startedRequest, newlyStarted}
 use Rattle.booking.specs.Faults.{faulted}
 use Rattle.booking.specs.Claims.{pastOf}
@@ -19,12 +19,12 @@ use Rattle.attribution.specs.Marks.{Entry, Log, sinceIn, past}
 use Rattle.attribution.specs.Origin.{requests}
 use Rattle.attribution.specs.Wiring.{noFault, Wiring}
 use Rattle.attribution.specs.Attributed.{Attributed}
-use Rattle.attribution.proofs.LawfulLog.{Lawful, start, opened, more, lawful-after}
-use Rattle.attribution.proofs.Steps.{Shows, Step, plain, grants, takes, answers, ends, recovers′, step, entryOf, past-more}
+use Rattle.attribution.proofs.LawfulLog.{Lawful, opened, more, lawful-after}
+use Rattle.attribution.proofs.Steps.{Shows, Step, plain, grants, takes, answers, ends, restarts, step, entryOf, past-more}
 use Rattle.attribution.proofs.Calm.{Calm, calm}
 use Rattle.attribution.proofs.Latest.{Clean, clean-end}
 use Rattle.attribution.proofs.Spent.{Spent, Origin, none-left, wiring-before, origin}
-use Rattle.attribution.proofs.Asked.{all-spent, wire-same, clean-keeps, wire-more, frame-same, latest-now}
+use Rattle.attribution.proofs.Asked.{all-spent, wire-same, clean-keeps, wire-more, frame-same}
 use Rattle.attribution.proofs.CameFrom.{the-open, Stands, Covers, CleanGrants, stands, came-from}
 
 covers : Covers noFault
@@ -45,7 +45,6 @@ unbooked (some q) = refl
 
 module _ (o : Opening) (l : Log) (h : Past) (e : Entry) (i : Stands l h) (unasked : Calm h) (c : Silent h)
     (known : (b : Byte) → e .seen .wire .byte ≡ some b → faulted h ≡ false → Origin l (e .origin)) where
-
   -- no byte, no grant, no recovery
   same-silent : Shows (e .seen) none none none none false → Silent (e .seen ∷ h)
   unfolding openRequest faulted
@@ -111,7 +110,7 @@ module _ (o : Opening) (l : Log) (h : Past) (e : Entry) (i : Stands l h) (unaske
       go (some q) x none y = passed (s .delivered ∙ rw (x, y))
       go (some q) x (some f) y =
           let t = the-open (openRequest h) _ q x in
-          let k : Clean (wire (e .seen ∷ h)) = clean-keeps h e (s .byte) (c .held (t .timed′) (t .open′) f y) in
+          let k : Clean (wire (e .seen ∷ h)) = clean-keeps h e (s .byte) (c .held (t .found) (t .there) f y) in
           record { idle = λ n z. k; held = λ q n f z. k }
 
   silent-step : Step o h (e .seen) → Silent (e .seen ∷ h)
@@ -129,7 +128,7 @@ module _ (o : Opening) (l : Log) (h : Past) (e : Entry) (i : Stands l h) (unaske
         idle = λ x f. absurd (true≢false (rw (s .timeout) at f));
         held = λ q x f y. absurd (Option·none-ne-some q (rw (s .delivered, s .timeout) at x));
       }
-  silent-step (recovers′ k f w s) =
+  silent-step (restarts k f w s) =
       let z : Clean (wire (e .seen ∷ h)) = ap (λ (w : List OnWire). latest w 1) (wire-same h e (s .byte) true k) in
       record { idle = λ x f. z; held = λ q x f y. z }
 
@@ -139,17 +138,17 @@ module _ (o : Opening) (l : Log) (h : Past) (e : Entry) (i : Stands l h) (unaske
   clean-grant (takes b a s) g k = absurd (Option·none-ne-some g (sym (s .granted) ∙ k))
   clean-grant (answers q s) g k = absurd (Option·none-ne-some g (sym (s .granted) ∙ k))
   clean-grant (ends t s) g k = absurd (Option·none-ne-some g (sym (s .granted) ∙ k))
-  clean-grant (recovers′ x f w s) g k = absurd (Option·none-ne-some g (sym (s .granted) ∙ k))
+  clean-grant (restarts x f w s) g k = absurd (Option·none-ne-some g (sym (s .granted) ∙ k))
 
 record Quiet (l : Log) : Type 0 where
   silent : Silent (past l)
-  grants′ : CleanGrants l
+  granting : CleanGrants l
 
 quiet-more : (l : Log) (s : Since) (r : Record) (o : Option ℕ) → sinceIn l ≡ some s → opens r ≡ false → Lawful l → Quiet l → Wiring noFault (entryOf s r o ∷ l) → Quiet (entryOf s r o ∷ l)
 quiet-more l s r o x f i j w =
     record {
       silent = subst Silent (sym (past-more l s r o x f)) (silent-step (s .opening) l (s .past) e at-l calm-l silent-l known (step (s .opening) (s .past) r f));
-      grants′ = (λ g k. subst (λ (h : Past). Clean (wire h)) (sym same) (clean-grant (s .opening) l (s .past) e at-l calm-l silent-l known (step (s .opening) (s .past) r f) g k), j .grants′);
+      granting = (λ g k. subst (λ (h : Past). Clean (wire h)) (sym same) (clean-grant (s .opening) l (s .past) e at-l calm-l silent-l known (step (s .opening) (s .past) r f) g k), j .granting);
     }
   where
     e : Entry
@@ -159,7 +158,7 @@ quiet-more l s r o x f i j w =
     same = ap pastOf x
 
     at-l : Stands l (s .past)
-    at-l = subst (Stands l) same (stands noFault covers l i (wiring-before noFault l e w) (j .grants′))
+    at-l = subst (Stands l) same (stands noFault covers l i (wiring-before noFault l e w) (j .granting))
 
     calm-l : Calm (s .past)
     calm-l = subst Calm same (calm l i)
@@ -176,12 +175,12 @@ silent-new = record { idle = λ n f. refl; held = λ q n f x. refl }
 
 quiet : (l : Log) → Lawful l → Wiring noFault l → Quiet l
 unfolding sinceIn
-quiet [] i w = record { silent = silent-new; grants′ = tt }
+quiet [] i w = record { silent = silent-new; granting = tt }
 quiet (e ∷ l) (opened c t o i) w =
-    record { silent = silent-new; grants′ = (λ g k. absurd (Option·none-ne-some g k), quiet l i (wiring-before noFault l e w) .grants′) }
+    record { silent = silent-new; granting = (λ g k. absurd (Option·none-ne-some g k), quiet l i (wiring-before noFault l e w) .granting) }
 quiet (e ∷ l) (more s r o x f i) w = quiet-more l s r o x f i (quiet l i (wiring-before noFault l e w)) w
 
 pub attributed : Attributed
 attributed ms e l u x d w =
     let i : Lawful (e ∷ l) = subst Lawful x (lawful-after ms) in
-    came-from noFault covers e l u i w (quiet (e ∷ l) i w .grants′) d
+    came-from noFault covers e l u i w (quiet (e ∷ l) i w .granting) d

@@ -1,12 +1,9 @@
 -- A wire just cut is clean, so a caller that cuts before each request needs the five assumptions only while a request is open.
 use mathlib.Core.Path.{_≡_, refl, subst}
 use mathlib.Core.List.{List, [], _∷_}
-use mathlib.Core.Bool.{true, not, _||_, false≢true}
-use mathlib.Core.Option.{some}
-use Rattle.booking.specs.Maybe.{is}
-use Rattle.booking.specs.History.{Timed}
+use mathlib.Core.Bool.{true, false≢true}
 use Rattle.booking.specs.Wire.{OnWire, byte, cut, wire, latest}
-use Rattle.attribution.specs.Marks.{Entry, Log, past}
+use Rattle.attribution.specs.Marks.{Log, past}
 use Rattle.attribution.specs.Wiring.{always}
 use Rattle.attribution.specs.Cutting.{asking, justCut, cutFirst}
 use Rattle.attribution.specs.Attributed.{AttributedByCuts}

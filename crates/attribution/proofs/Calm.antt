@@ -1,17 +1,16 @@
 -- While a fault stands no request is open: a timeout ends the request, and none is granted before the recovery.
 use mathlib.Core.Path.{_≡_, refl, sym, _∙_, subst}
 use mathlib.Core.List.{[], _∷_}
-use mathlib.Core.Option.{Option, none, some}
+use mathlib.Core.Option.{Option, none}
 use mathlib.Core.Bool.{Bool, true, false, _||_, false≢true}
 use Rattle.blheli_telemetry.specs.Choice.{pick}
 use Rattle.booking.specs.Maybe.{is}
 use Rattle.booking.specs.History.{Opening, Timed, Seen, Past}
 use Rattle.booking.specs.Booking.{openRequest}
 use Rattle.booking.specs.Faults.{faulted}
-use Rattle.booking.specs.Claims.{pastOf}
 use Rattle.attribution.specs.Marks.{Log, sinceIn, past}
 use Rattle.attribution.proofs.LawfulLog.{Lawful, start, opened, more}
-use Rattle.attribution.proofs.Steps.{Shows, Step, plain, grants, takes, answers, ends, recovers′, step, past-more}
+use Rattle.attribution.proofs.Steps.{Step, plain, grants, takes, answers, ends, restarts, step, past-more}
 
 abbrev pub Calm : Past → Type 0
 Calm h = faulted h ≡ true → openRequest h ≡ none
@@ -28,7 +27,7 @@ calm-step o h e (grants q n z s) i f = absurd (false≢true (sym z ∙ (rw (s .t
 calm-step o h e (takes b a s) i f = rw (s .timeout, s .granted) (still-none (is (e .requests .delivered)) (openRequest h) (i (rw (s .timeout, s .recovered) at f)))
 calm-step o h e (answers q s) i f = rw (s .timeout, s .granted) (still-none (is (e .requests .delivered)) (openRequest h) (i (rw (s .timeout, s .recovered) at f)))
 calm-step o h e (ends t s) i f = rw (s .delivered, s .timeout)
-calm-step o h e (recovers′ c z w s) i f = absurd (false≢true (rw (s .timeout, s .recovered) at f))
+calm-step o h e (restarts c z w s) i f = absurd (false≢true (rw (s .timeout, s .recovered) at f))
 
 pub calm : (l : Log) → Lawful l → Calm (past l)
 unfolding openRequest sinceIn

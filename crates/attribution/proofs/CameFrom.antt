@@ -3,7 +3,7 @@
 use mathlib.Core.Path.{_≡_, refl, sym, _∙_, ap, subst}
 use mathlib.Core.List.{List, [], _∷_}
 use mathlib.Core.Option.{Option, none, some, Option·none-ne-some, Option·some-ne-none, Option·some-injective}
-use mathlib.Core.Bool.{Bool, true, false, true≢false, false≢true}
+use mathlib.Core.Bool.{Bool, true, false, true≢false}
 use Prim.Native.Nat.{ℕ, _≤_, _<_}
 use native.Mathlib.Omega.{arith}
 use lib.ListN.{length}
@@ -16,21 +16,20 @@ use Rattle.esc_unit.specs.declared.record.Record.{Record}
 use Rattle.esc_unit.specs.declared.record.Record.the-variants as kind
 use Rattle.esc_unit.specs.declared.answer.Answer.the-variants as answer
 use Rattle.booking.specs.Maybe.{is, onlyIf}
-use Rattle.booking.specs.History.{Opening, Timed, Byte, Seen, Past, Since, seen}
+use Rattle.booking.specs.History.{Opening, Timed, Byte, Past, Since, seen}
 use Rattle.booking.specs.Wire.{Frame, wire, frameAt, timed}
 use Rattle.booking.specs.Booking.{booked, bookedTo, onlyThe, openRequest, latestFrame, newlyStarted, startedRequest}
 use Rattle.booking.specs.Faults.{faulted}
-use Rattle.booking.specs.Rule.{answerTo}
 use Rattle.booking.specs.Claims.{pastOf}
 use Rattle.attribution.specs.Marks.{Entry, Log, sinceIn, past}
-use Rattle.attribution.specs.Origin.{requests, sentBy, atRecovery, atOpening}
+use Rattle.attribution.specs.Origin.{requests, atRecovery, atOpening}
 use Rattle.attribution.specs.Wiring.{Scope, Wiring}
 use Rattle.attribution.specs.Attributed.{CameFrom}
-use Rattle.attribution.proofs.LawfulLog.{Lawful, start, opened, more}
-use Rattle.attribution.proofs.Steps.{Shows, Step, plain, grants, takes, answers, ends, recovers′, step, entryOf, past-more}
+use Rattle.attribution.proofs.LawfulLog.{Lawful, opened, more}
+use Rattle.attribution.proofs.Steps.{Shows, Step, plain, grants, takes, answers, ends, restarts, step, entryOf, past-more}
 use Rattle.attribution.proofs.Calm.{Calm, calm}
 use Rattle.attribution.proofs.Latest.{Clean}
-use Rattle.attribution.proofs.Spent.{Spent, spent-keeps, all-spent-keeps, Origin, none-left, wiring-before, origin}
+use Rattle.attribution.proofs.Spent.{Spent, spent-keeps, all-spent-keeps, Origin, wiring-before, origin}
 use Rattle.attribution.proofs.Asked.{Asked, came, all-spent, own-clean, frame-same, clean-keeps, asked-same, latest-now, asked-more}
 
 -- where a log stands: faulted, or with nothing open and nothing left to come, or with a request open
@@ -44,16 +43,16 @@ pub record Stepped (l : Log) (h : Past) (e : Entry) : Type 0 where
 
 -- what a rule names of the open request is open
 pub record TheOpen (x : Option Timed) (q : EscActuatorRequest) : Type 0 where
-  pub timed′ : Timed
-  pub open′ : x ≡ some timed′
-  pub named : timed′ .request ≡ q
+  pub found : Timed
+  pub there : x ≡ some found
+  pub named : found .request ≡ q
 
 pub the-open : (x : Option Timed) (ok : EscActuatorRequest → Bool) (q : EscActuatorRequest) → onlyThe x ok ≡ some q → TheOpen x q
 the-open none ok q e = absurd (Option·none-ne-some q e)
 the-open (some t) ok q e = go (ok (t .request)) e
   where
     go : (b : Bool) → onlyIf b (some (t .request)) ≡ some q → TheOpen (some t) q
-    go true k = record { timed′ = t; open′ = refl; named = Option·some-injective _ _ k }
+    go true k = record { found = t; there = refl; named = Option·some-injective _ _ k }
     go false k = absurd (Option·none-ne-some q k)
 
 late : (n k : ℕ) → k < n → n ≤ k → ⊥
@@ -62,7 +61,6 @@ late n k a b = omega arith
 module _ (o : Opening) (l : Log) (h : Past) (e : Entry) (i : Stands l h) (unasked : Calm h)
     (known : (q : Timed) → openRequest h ≡ some q → (b : Byte) → e .seen .wire .byte ≡ some b → Origin l (e .origin))
     (clean : (g : Timed) → e .seen .requests .granted ≡ some g → Clean (wire h)) where
-
   no-sample : e .seen .requests .delivered ≡ none → (u : EscTelemetryUpdate) → e .seen .requests .delivered ≡ some u → CameFrom (e ∷ l) u
   no-sample n u k = absurd (Option·none-ne-some u (sym n ∙ k))
 
@@ -153,7 +151,7 @@ module _ (o : Opening) (l : Log) (h : Past) (e : Entry) (i : Stands l h) (unaske
       go (some q) x (some f) y =
           let t = the-open (openRequest h) _ q x in
           let k : Frame = record { bytes = f; at = e .seen .now } in
-          let a : Asked (e ∷ l) (e .seen ∷ h) q = subst (Asked (e ∷ l) (e .seen ∷ h)) (t .named) (asks (t .timed′) (t .open′)) in
+          let a : Asked (e ∷ l) (e .seen ∷ h) q = subst (Asked (e ∷ l) (e .seen ∷ h)) (t .named) (asks (t .found) (t .there)) in
           let z : latestFrame (e .seen ∷ h) ≡ some k = latest-now h e (s .granted) (record { value = b; at = e .seen .now }) (s .byte) f y in
           let d : e .seen .requests .delivered ≡ some (booked q k) = s .delivered ∙ rw (x, y) in
           record {
@@ -174,7 +172,7 @@ module _ (o : Opening) (l : Log) (h : Past) (e : Entry) (i : Stands l h) (unaske
       go (some q) x none y = passed (s .delivered ∙ rw (x, y))
       go (some q) x (some k) y =
           let t = the-open (openRequest h) _ q x in
-          let same = asked-same l h e (s .granted) (s .opening) (s .recovered) (s .byte) (t .timed′ .request) (i .asked (t .timed′) (t .open′)) in
+          let same = asked-same l h e (s .granted) (s .opening) (s .recovered) (s .byte) (t .found .request) (i .asked (t .found) (t .there)) in
           let a : Asked (e ∷ l) (e .seen ∷ h) q = subst (Asked (e ∷ l) (e .seen ∷ h)) (t .named) same in
           let z : latestFrame (e .seen ∷ h) ≡ some k = frame-same l h e (s .granted) (s .opening) (s .recovered) (s .byte) ∙ y in
           let d : e .seen .requests .delivered ≡ some (booked q k) = s .delivered ∙ rw (x, y) in
@@ -209,7 +207,7 @@ module _ (o : Opening) (l : Log) (h : Past) (e : Entry) (i : Stands l h) (unaske
   stepped (takes b a s) = byte-step b s
   stepped (answers q s) = ack-step q s
   stepped (ends t s) = timeout-step t s
-  stepped (recovers′ c f w s) = recovery-step f s
+  stepped (restarts c f w s) = recovery-step f s
 
 stands-new : (l : Log) (c : EscManagerConfig) (t : ℕ) (o : Option ℕ) → Stands (record { seen = seen (kind.Open c t) answer.Done; origin = o } ∷ l) []
 unfolding openRequest faulted requests atOpening

@@ -26,7 +26,7 @@ pub data Lawful : Log → Type 0 where
   start : Lawful []
   opened : {l : Log} (c : EscManagerConfig) (t : ℕ) (o : Option ℕ) → Lawful l → Lawful (record { seen = seen (kind.Open c t) answer.Done; origin = o } ∷ l)
   more : {l : Log} (s : Since) (r : Record) (o : Option ℕ) → sinceIn l ≡ some s → opens r ≡ false → Lawful l
-    → Lawful (record { seen = seen r (answerTo (s .opening) (s .past) r); origin = o } ∷ l)
+      → Lawful (record { seen = seen r (answerTo (s .opening) (s .past) r); origin = o } ∷ l)
 
 -- a reply that there is room for is entered, any other passed over
 fitting : (l : Log) (r : Record) (a : Answer) (o : Option ℕ) (room : ℕ) → Lawful l → Lawful (record { seen = seen r a; origin = o } ∷ l)

@@ -10,6 +10,7 @@ pub mod Asked
 pub mod CameFrom
 pub mod ByCuts
 pub mod Attributed
+pub mod Timely
 pub mod ByTimes
 pub mod Lists
 pub mod Refuted

@@ -117,10 +117,10 @@ abbrev pub cuttingFails : Log → List Name
 cuttingFails l = failing (five asking l ++ record { name = cutting; holds = always cutFirst l } ∷ [])
 
 -- what fails of a list in each of the three forms, where its samples went and where its bytes came from
-pub record Row (l : Log) (wiring timing cuts : List Name) (to : List ℕ) (from : List (Option ℕ)) : Type 0 where
+pub record Row (l : Log) (wiring timing cutting : List Name) (to : List ℕ) (from : List (Option ℕ)) : Type 0 where
   pub wires : wiringFails l ≡ wiring
   pub times : timingFails l ≡ timing
-  pub cut′ : cuttingFails l ≡ cuts
+  pub cuts : cuttingFails l ≡ cutting
   pub lanes : booked l ≡ to
   pub sent : arms l ≡ from
 
@@ -134,4 +134,4 @@ by-rule P ms = subst (λ (h : MarkedHistory). P (logOf h)) (sym (marked-by-rule 
 pub row : (ms : List Marked) → Row (logAfter ms) (wiringFails (ruleLog ms)) (timingFails (ruleLog ms)) (cuttingFails (ruleLog ms)) (booked (ruleLog ms)) (arms (ruleLog ms))
 row ms =
     by-rule (λ (l : Log). Row l (wiringFails (ruleLog ms)) (timingFails (ruleLog ms)) (cuttingFails (ruleLog ms)) (booked (ruleLog ms)) (arms (ruleLog ms))) ms
-    (record { wires = refl; times = refl; cut′ = refl; lanes = refl; sent = refl })
+    (record { wires = refl; times = refl; cuts = refl; lanes = refl; sent = refl })

@@ -1,6 +1,6 @@
 -- Lists on which the claims say something: all that is assumed holds, samples are delivered, and each came from its request.
-use mathlib.Core.Path.{_≡_, refl, ap, subst}
-use mathlib.Core.Bool.{Bool, true, false, false≢true}
+use mathlib.Core.Path.{_≡_, refl, ap}
+use mathlib.Core.Bool.{true, false, false≢true}
 use mathlib.Core.List.{List, [], _∷_, _++_}
 use mathlib.Core.Option.{Option, none, some}
 use lib.ListN.{replicate}
@@ -73,7 +73,7 @@ shown-by Assumed claim ms = go (ruleLog ms) (ap logOf (marked-by-rule ms))
 
 pub record Live : Type 0 where
   pub flight-comes : Row (logAfter flight) [] [] [] (0 ∷ 2 ∷ 0 ∷ [])
-    (replicate 10 (some 0) ++ (replicate 9 (some 1) ++ (replicate 25 none ++ (replicate 10 (some 2) ++ (replicate 10 (some 3) ++ replicate 10 (some 0))))))
+      (replicate 10 (some 0) ++ (replicate 9 (some 1) ++ (replicate 25 none ++ (replicate 10 (some 2) ++ (replicate 10 (some 3) ++ replicate 10 (some 0))))))
   pub by-wiring : Shown flight
   pub by-times : Shown flight
   pub by-cuts : Shown flight

@@ -1,9 +1,8 @@
 -- Each assumption is needed: a list in which only it fails, a sample is booked to an arm that its bytes did not come from, and the claim
 -- is false. In the order of the lists: what fails of the five, with times, with cuts; where samples went and where bytes came from.
-use mathlib.Core.Path.{_≡_, refl}
-use mathlib.Core.Bool.{Bool, true, false}
+use mathlib.Core.Path.{refl}
 use mathlib.Core.List.{List, [], _∷_, _++_}
-use mathlib.Core.Option.{Option, none, some}
+use mathlib.Core.Option.{none, some}
 use lib.ListN.{replicate}
 use Rattle.blheli_telemetry.specs.BigEndian.{numberAt, bytesOf}
 use Rattle.blheli_telemetry.specs.Crc.{crcBit, crcBits, crcByte, crcFrom, crcOf}
@@ -18,12 +17,12 @@ use Rattle.booking.specs.Faults.{faulted, quietSince, retries, expired, recover
 use Rattle.booking.specs.Turns.{turn, lastQueued, existing}
 use Rattle.booking.specs.IdleRule.{check, verdict, run, judged}
 use Rattle.booking.specs.Rule.{ruleFor}
-use Rattle.attribution.specs.Marks.{Marked, Log, logOf, logAfter, sinceIn}
+use Rattle.attribution.specs.Marks.{Marked, logOf, logAfter, sinceIn}
 use Rattle.attribution.specs.Origin.{requests, sentBy, atRecovery, atOpening}
 use Rattle.attribution.specs.Wiring.{always}
 use Rattle.attribution.specs.Times.{clockAt, heardAt}
 use Rattle.attribution.proofs.ByRule.{traceMarked}
-use Rattle.attribution.proofs.Lists.{opening, queue, acknowledge, poll, cut, recover, ask, zeros, Name, e1, e2, e3, e4, e5, clock, answer, reopening, cutting, Row, row}
+use Rattle.attribution.proofs.Lists.{opening, queue, acknowledge, poll, cut, recover, ask, zeros, e1, e2, e3, e4, e5, clock, answer, reopening, cutting, Row, row}
 use Rattle.attribution.proofs.Refuted.{Refuted, refuted-by}
 
 -- E1: noise makes a frame

@@ -3,7 +3,7 @@ use mathlib.Core.Path.{_≡_, refl}
 use mathlib.Core.List.{List, [], _∷_, _++_}
 use mathlib.Core.Option.{Option, none, some}
 use mathlib.Core.Bool.{Bool, true, false, false≢true}
-use Prim.Native.Nat.{ℕ, _+_, _≤_, _<_}
+use Prim.Native.Nat.{ℕ, _≤_, _<_}
 use native.Mathlib.Omega.{arith}
 use lib.ListN.{length, length-append}
 use lib.Dec.{eqb, leb, ltb}
@@ -13,7 +13,7 @@ use Rattle.booking.specs.Maybe.{is}
 use Rattle.booking.specs.History.{Byte}
 use Rattle.attribution.specs.Marks.{Entry, Log}
 use Rattle.attribution.specs.Origin.{requests, addByte, sentBy, atRecovery, atOpening}
-use Rattle.attribution.specs.Wiring.{Scope, Test, always, ofOrigin, noNoise, askedFirst, oneFrame, quietRecovery, quietOpening, Wiring}
+use Rattle.attribution.specs.Wiring.{Scope, always, ofOrigin, noNoise, askedFirst, oneFrame, quietRecovery, quietOpening, Wiring}
 use Rattle.attribution.proofs.Both.{and-left, and-right}
 
 -- the requests numbered below n have nothing left to send

@@ -1,11 +1,10 @@
 -- What one more entry of a log can be: the rule's answer to each kind of record, by what it shows of requests, wire and openings.
-use mathlib.Core.Path.{_≡_, refl, sym, _∙_, ap}
+use mathlib.Core.Path.{_≡_, refl, ap}
 use mathlib.Core.List.{_∷_}
 use mathlib.Core.Option.{Option, none, some, Option·none-ne-some}
-use mathlib.Core.Bool.{Bool, true, false, not, _&&_, true≢false, false≢true}
+use mathlib.Core.Bool.{Bool, true, false, not, true≢false}
 use Prim.Native.Nat.{ℕ, _-_, _*_, _^_, _≤_, min}
-use lib.Dec.{leb}
-use borrow.Author.Tests.{leb-true, not-true}
+use borrow.Author.Tests.{leb-true}
 use Rattle.esc_feedback.specs.declared.request.EscActuatorRequest.{EscActuatorRequest}
 use Rattle.esc_feedback.specs.declared.request.EscActuatorAck.{EscActuatorAck}
 use Rattle.esc_feedback.specs.declared.request.EscTelemetryUpdate.{EscTelemetryUpdate}
@@ -16,7 +15,6 @@ use Rattle.esc_unit.specs.declared.record.Record.{Record}
 use Rattle.esc_unit.specs.declared.record.Record.the-variants as kind
 use Rattle.esc_unit.specs.declared.answer.IdleAnswer.{IdleAnswer}
 use Rattle.esc_unit.specs.declared.answer.Answer.the-variants as answer
-use Rattle.booking.specs.Maybe.{is}
 use Rattle.booking.specs.History.{Opening, Timed, Byte, Seen, Past, Since, seen}
 use Rattle.booking.specs.Wire.{Frame, wire, frameAt, timed}
 use Rattle.booking.specs.Booking.{bookedTo, openRequest, latestFrame, newlyStarted, startedRequest}
@@ -48,8 +46,8 @@ pub data Step (o : Opening) (h : Past) (e : Seen) : Type 0 where
   -- a 04 answered with a timeout
   ends : (t : EscManagerTimeout) → Shows e none none none (some t) false → Step o h e
   -- a 07 answered yes: a fault stood, and the quiet time had passed
-  recovers′ : e .wire .cut ≡ true → faulted h ≡ true → o .config .«recovery_quiet_ms» * 2 ^ min (retries h) 3 ≤ e .now - quietSince h
-    → Shows e none none none none true → Step o h e
+  restarts : e .wire .cut ≡ true → faulted h ≡ true → o .config .«recovery_quiet_ms» * 2 ^ min (retries h) 3 ≤ e .now - quietSince h
+      → Shows e none none none none true → Step o h e
 
 shows : (e : Seen) → e .opening ≡ none → Shows e (e .requests .granted) (e .wire .byte) (e .requests .delivered) (e .requests .timeout) (e .requests .recovered)
 shows e o = record { opening = o; granted = refl; byte = refl; delivered = refl; timeout = refl; recovered = refl }
@@ -57,7 +55,7 @@ shows e o = record { opening = o; granted = refl; byte = refl; delivered = refl;
 module _ (o : Opening) (h : Past) where
   -- a request exists only where none is open and no fault stands
   record Free : Type 0 where
-    open′ : openRequest h ≡ none
+    unasked : openRequest h ≡ none
     calm : faulted h ≡ false
 
   existing-free : (now : ℕ) (q : EscActuatorRequest) → existing o h now ≡ some q → Free
@@ -65,7 +63,7 @@ module _ (o : Opening) (h : Past) where
   existing-free now q e = go (faulted h) refl (openRequest h) refl
     where
       go : (f : Bool) → faulted h ≡ f → (x : Option Timed) → openRequest h ≡ x → Free
-      go false f none x = record { open′ = x; calm = f }
+      go false f none x = record { unasked = x; calm = f }
       go true f x y = absurd (Option·none-ne-some q (rw f at e))
       go false f (some p) y = absurd (Option·none-ne-some q (rw (f, y) at e))
 
@@ -80,7 +78,7 @@ module _ (o : Opening) (h : Past) where
           free = existing-free now p e
 
           named : (y : Bool) → Step o h (seen (kind.MarkRequestQueued q now) (answer.Decided y))
-          named true = grants q (free .open′) (free .calm) (shows _ refl)
+          named true = grants q (free .unasked) (free .calm) (shows _ refl)
           named false = plain (shows _ refl)
 
   ack-step : (k : EscActuatorAck) (now : ℕ) (says : EscTelemetryUpdate → IdleAnswer)
@@ -112,7 +110,7 @@ module _ (o : Opening) (h : Past) where
       go : (y : Bool) → recovers o h armed now ≡ y → Step o h (seen (kind.TryRecover armed now) (answer.Decided y))
       go false e = plain (shows _ refl)
       go true e =
-          recovers′ refl (and-left (faulted h) _ e) (leb-true _ _ (and-right (not armed) _ (and-right (faulted h) _ e)))
+          restarts refl (and-left (faulted h) _ e) (leb-true _ _ (and-right (not armed) _ (and-right (faulted h) _ e)))
           (shows _ refl)
 
   pub step : (r : Record) → opens r ≡ false → Step o h (seen r (answerTo o h r))
@@ -142,7 +140,7 @@ step-opening o h e (grants q n f s) = s .opening
 step-opening o h e (takes b a s) = s .opening
 step-opening o h e (answers q s) = s .opening
 step-opening o h e (ends t s) = s .opening
-step-opening o h e (recovers′ c f w s) = s .opening
+step-opening o h e (restarts c f w s) = s .opening
 
 pub since-more : (l : Log) (s : Since) (r : Record) (o : Option ℕ) → sinceIn l ≡ some s → opens r ≡ false
     → sinceIn (entryOf s r o ∷ l) ≡ some (record { opening = s .opening; past = entryOf s r o .seen ∷ s .past })

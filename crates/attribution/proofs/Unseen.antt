@@ -3,7 +3,7 @@ use mathlib.Core.Path.{_≡_, refl}
 use mathlib.Core.List.{List, [], _∷_, map}
 use Rattle.esc_unit.specs.Unit.{neverOpened, callOf}
 use Rattle.esc_unit.specs.declared.unit.Unit.{Unit}
-use Rattle.booking.specs.History.{Call, Event, History}
+use Rattle.booking.specs.History.{Call, History}
 use Rattle.booking.specs.Run.{feed, run}
 use Rattle.attribution.specs.Marks.{Marked, MarkedHistory, MarkedEvent, feedMarked, runMarked}
 

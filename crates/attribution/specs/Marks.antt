@@ -1,7 +1,7 @@
 -- Calls with a mark that the unit never sees: whose bytes they are. And the log: what was accepted over a whole list, with the marks.
 use Prim.Native.Nat.{ℕ}
 use mathlib.Core.List.{List, [], _∷_}
-use mathlib.Core.Option.{Option, none, some}
+use mathlib.Core.Option.{Option, none}
 use Rattle.blheli_telemetry.specs.Reply.{Reply, accepted, refused}
 use Rattle.esc_unit.specs.Record.{readRecord}
 use Rattle.esc_unit.specs.Unit.{neverOpened, callOf}
