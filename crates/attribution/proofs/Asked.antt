@@ -3,24 +3,23 @@
 use mathlib.Core.Path.{_≡_, refl, sym, _∙_, ap, subst}
 use mathlib.Core.List.{List, [], _∷_, _++_, append-assoc, append-nil, map-append}
 use mathlib.Core.Option.{Option, none, some, Option·none-ne-some, Option·some-injective}
-use mathlib.Core.Bool.{Bool, true, false}
+use mathlib.Core.Bool.{false}
 use Prim.Native.Nat.{ℕ, zero, suc, _+_, _≤_, _<_}
 use native.Mathlib.Omega.{arith}
 use lib.ListN.{length, length-append, length-map}
 use borrow.Author.Tests.{eq-eqb}
 use Rattle.blheli_telemetry.specs.Crc.{crcOf}
 use Rattle.blheli_telemetry.specs.Frame.{telemetryOf}
-use Rattle.blheli_telemetry.specs.Choice.{pick}
 use Rattle.blheli_telemetry.proofs.ByCases.{below-or-not}
 use Rattle.esc_feedback.specs.declared.request.EscActuatorRequest.{EscActuatorRequest}
-use Rattle.booking.specs.Maybe.{orElse}
 use Rattle.booking.specs.History.{Byte, Past}
-use Rattle.booking.specs.Wire.{OnWire, byte, cut, Frame, wire, latest, frameAt, timed}
+use Rattle.booking.specs.Wire.{OnWire, byte, Frame, wire, latest, frameAt, timed}
 use Rattle.booking.specs.Booking.{latestFrame, booked}
 use Rattle.attribution.specs.Marks.{Entry, Log}
 use Rattle.attribution.specs.Origin.{requests, sentBy, Taken, taken, sentAs}
 use Rattle.attribution.specs.Attributed.{values, SentFrame, CameFrom}
 use Rattle.attribution.proofs.Latest.{Clean, latest-none, extends, latest-length, ended, clean-more}
+use Rattle.attribution.proofs.WireSteps.{wire-more, frame-same, latest-same, frame-more}
 use Rattle.attribution.proofs.Spent.{Spent, requests-keep, spent-keeps, Origin, none-left}
 
 -- the bytes that came in last are request k's and have these values
@@ -85,30 +84,6 @@ pub own-clean : (l : Log) (h : Past) (k : ℕ) → Clean (wire h) → Own l h k
 own-clean l h k c zero bs e = no-bytes l (wire h) k bs e
 own-clean l h k c (suc n) bs e = absurd (Option·none-ne-some bs (sym (clean-more (wire h) n c) ∙ e))
 
--- without a byte, a wire is as it was or cut
-pub wire-same : (h : Past) (e : Entry) → e .seen .wire .byte ≡ none → (c : Bool) → e .seen .wire .cut ≡ c → wire (e .seen ∷ h) ≡ pick c (cut ∷ wire h) (wire h)
-unfolding wire
-wire-same h e b true x = rw (b, x)
-wire-same h e b false x = rw (b, x)
-
-pub wire-more : (h : Past) (e : Entry) (b : Byte) → e .seen .wire .byte ≡ some b → wire (e .seen ∷ h) ≡ byte (b .value) ∷ wire h
-unfolding wire
-wire-more h e b x = rw x
-
-pub clean-keeps : (h : Past) (e : Entry) → e .seen .wire .byte ≡ none → Clean (wire h) → Clean (wire (e .seen ∷ h))
-unfolding latest
-clean-keeps h e b i = go (e .seen .wire .cut) refl
-  where
-    go : (c : Bool) → e .seen .wire .cut ≡ c → Clean (wire (e .seen ∷ h))
-    go true x = ap (λ (w : List OnWire). latest w 1) (wire-same h e b true x)
-    go false x = ap (λ (w : List OnWire). latest w 1) (wire-same h e b false x) ∙ i
-
--- a frame end gives the latest frame
-pub latest-now : (h : Past) (e : Entry) → e .seen .requests .granted ≡ none → (b : Byte) → e .seen .wire .byte ≡ some b → (f : List ℕ) → frameAt (wire h) (b .value) ≡ some f
-    → latestFrame (e .seen ∷ h) ≡ some (record { bytes = f; at = b .at })
-unfolding latestFrame
-latest-now h e g b x f y = rw (g, x, y)
-
 values-more : (bs : List Byte) (b : Byte) → values (bs ++ b ∷ []) ≡ values bs ++ b .value ∷ []
 values-more bs b = map-append _ bs (b ∷ [])
 
@@ -129,19 +104,6 @@ module _ (l : Log) (h : Past) (e : Entry) (g : e .seen .requests .granted ≡ no
     taken-same : taken (e ∷ l) ≡ taken l
     unfolding taken
     taken-same = rw b (append-nil (taken l))
-
-    pub frame-same : latestFrame (e .seen ∷ h) ≡ latestFrame h
-    unfolding latestFrame
-    frame-same = rw (g, b)
-
-    latest-same : (n : ℕ) (bs : List ℕ) → latest (wire (e .seen ∷ h)) n ≡ some bs → latest (wire h) n ≡ some bs
-    unfolding latest
-    latest-same n bs = go (e .seen .wire .cut) refl n
-      where
-        go : (c : Bool) → e .seen .wire .cut ≡ c → (n : ℕ) → latest (wire (e .seen ∷ h)) n ≡ some bs → latest (wire h) n ≡ some bs
-        go true x zero y = latest-none (wire h) ∙ sym (latest-none (wire (e .seen ∷ h))) ∙ y
-        go true x (suc n) y = absurd (Option·none-ne-some bs (ap (λ (w : List OnWire). latest w (suc n)) (sym (wire-same h e b true x)) ∙ y))
-        go false x n y = ap (λ (w : List OnWire). latest w n) (sym (wire-same h e b false x)) ∙ y
 
     still-ends : (k : ℕ) (bs : List ℕ) → EndsWith l k bs → EndsWith (e ∷ l) k bs
     still-ends k bs i = record { last = i .last; same = i .same; before = i .before; sent = sent-same k ∙ i .sent; others = i .others; newest = taken-same ∙ i .newest }
@@ -168,8 +130,8 @@ module _ (l : Log) (h : Past) (e : Entry) (g : e .seen .requests .granted ≡ no
           earlier = a .earlier;
           newest = requests-keep l e g ∙ a .newest;
           spent = spent-keeps l e o r (length (a .earlier)) (a .spent);
-          own = λ f n bs x. still-ends (length (a .earlier)) bs (a .own (sym frame-same ∙ f) n bs (latest-same n bs x));
-          kept = λ f x. still-kept (length (a .earlier)) f (a .kept f (sym frame-same ∙ x));
+          own = λ f n bs x. still-ends (length (a .earlier)) bs (a .own (sym (frame-same h e g b) ∙ f) n bs (latest-same h e b n bs x));
+          kept = λ f x. still-kept (length (a .earlier)) f (a .kept f (sym (frame-same h e g b) ∙ x));
         }
 
   -- with a byte: its origin is the open request, since all others are spent
@@ -184,9 +146,7 @@ module _ (l : Log) (h : Past) (e : Entry) (g : e .seen .requests .granted ≡ no
             absurd (omega arith)
 
         later : length (a .earlier) ≤ m .number → m .number ≡ length (a .earlier)
-        later i =
-            let g′ = m .granted in
-            omega (arith, ap length (a .newest))
+        later i = omega (arith, m .granted, ap length (a .newest))
 
     sent-more : sentBy (length (a .earlier)) (e ∷ l) ≡ sentBy (length (a .earlier)) l ++ b ∷ []
     unfolding sentBy
@@ -204,14 +164,6 @@ module _ (l : Log) (h : Past) (e : Entry) (g : e .seen .requests .granted ≡ no
 
     -- the parts of the open request, by whether the byte ends a frame
     module _ (y : latestFrame h ≡ none) where
-      frame-more : latestFrame (e .seen ∷ h) ≡ timed (frameAt (wire h) (b .value)) (b .at)
-      unfolding latestFrame
-      frame-more = rw (g, x, y) (go (timed (frameAt (wire h) (b .value)) (b .at)))
-        where
-          go : (f : Option Frame) → orElse f none ≡ f
-          go none = refl
-          go (some f) = refl
-
       own-more : Own (e ∷ l) (e .seen ∷ h) (length (a .earlier))
       own-more zero bs z = no-bytes (e ∷ l) (wire (e .seen ∷ h)) (length (a .earlier)) bs z
       own-more (suc n) bs z =
@@ -251,14 +203,14 @@ module _ (l : Log) (h : Past) (e : Entry) (g : e .seen .requests .granted ≡ no
     pub asked-more : Asked (e ∷ l) (e .seen ∷ h) q
     asked-more = go (latestFrame h) refl
       where
-        ending : latestFrame h ≡ none → (t : Option (List ℕ)) → frameAt (wire h) (b .value) ≡ t → Asked (e ∷ l) (e .seen ∷ h) q
-        ending y t z =
+        ending : latestFrame h ≡ none → Asked (e ∷ l) (e .seen ∷ h) q
+        ending y =
             record {
               earlier = a .earlier;
               newest = requests-keep l e g ∙ a .newest;
               spent = spent-keeps l e o r (length (a .earlier)) (a .spent);
               own = λ f. own-more y;
-              kept = λ f k. kept-by t z f (sym (frame-more y) ∙ k);
+              kept = λ f k. kept-by (frameAt (wire h) (b .value)) refl f (sym (frame-more h e g b x y) ∙ k);
             }
           where
             kept-by : (t : Option (List ℕ)) → frameAt (wire h) (b .value) ≡ t → (f : Frame) → timed (frameAt (wire h) (b .value)) (b .at) ≡ some f → Kept (e ∷ l) (length (a .earlier)) f
@@ -266,5 +218,5 @@ module _ (l : Log) (h : Past) (e : Entry) (g : e .seen .requests .granted ≡ no
             kept-by (some t) z f k = subst (Kept (e ∷ l) (length (a .earlier))) (Option·some-injective _ _ (rw z at k)) (kept-more y t z)
 
         go : (x : Option Frame) → latestFrame h ≡ x → Asked (e ∷ l) (e .seen ∷ h) q
-        go none y = ending y (frameAt (wire h) (b .value)) refl
+        go none y = ending y
         go (some f) y = absurd (none-left l (e .origin) m (all-spent l h q f a y))

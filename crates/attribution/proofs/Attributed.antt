@@ -24,7 +24,8 @@ use Rattle.attribution.proofs.Steps.{Shows, Step, plain, grants, takes,
 use Rattle.attribution.proofs.Calm.{Calm, calm}
 use Rattle.attribution.proofs.Latest.{Clean, clean-end}
 use Rattle.attribution.proofs.Spent.{Spent, Origin, none-left, wiring-before, origin}
-use Rattle.attribution.proofs.Asked.{all-spent, wire-same, clean-keeps, wire-more, frame-same}
+use Rattle.attribution.proofs.WireSteps.{wire-same, wire-more, clean-keeps, frame-same}
+use Rattle.attribution.proofs.Asked.{all-spent}
 use Rattle.attribution.proofs.CameFrom.{the-open, Stands, Covers, CleanGrants, stands, came-from}
 
 covers : Covers noFault
@@ -51,7 +52,7 @@ module _ (o : Opening) (l : Log) (h : Past) (e : Entry) (i : Stands l h) (unaske
   same-silent s =
       record {
         idle = λ n f. clean-keeps h e (s .byte) (c .idle (sym same ∙ n) (rw (s .timeout, s .recovered) at f));
-        held = λ q n f x. clean-keeps h e (s .byte) (c .held q (sym same ∙ n) f (sym (frame-same l h e (s .granted) (s .opening) (s .recovered) (s .byte)) ∙ x));
+        held = λ q n f x. clean-keeps h e (s .byte) (c .held q (sym same ∙ n) f (sym (frame-same h e (s .granted) (s .byte)) ∙ x));
       }
     where
       same : openRequest (e .seen ∷ h) ≡ openRequest h

@@ -18,7 +18,8 @@ use Rattle.attribution.specs.Times.{clockAt, quietTime}
 use Rattle.attribution.specs.Attributed.{AttributedByTimes}
 use Rattle.attribution.proofs.LawfulLog.{Lawful, opened, more, lawful-after}
 use Rattle.attribution.proofs.Attributed.{attributed}
-use Rattle.attribution.proofs.Timely.{earlier, not-earlier, stamped-byte, TimelySince, Times, times-before, clock-holds, answer-now, timely}
+use Rattle.attribution.proofs.Heard.{earlier, stamped-byte}
+use Rattle.attribution.proofs.Timely.{not-earlier, TimelySince, Times, times-before, clock-holds, answer-now, timely}
 
 -- a byte's origin is no earlier request
 late-enough : (l : Log) (e : Entry) → TimelySince l (sinceIn l) → Times (e ∷ l) → (n : ℕ) → n ≤ earlier l → ofEachByte noFault (ofOrigin (λ k. leb n k)) l e ≡ true

@@ -30,7 +30,8 @@ use Rattle.attribution.proofs.Steps.{Shows, Step, plain, grants, takes,
 use Rattle.attribution.proofs.Calm.{Calm, calm}
 use Rattle.attribution.proofs.Latest.{Clean}
 use Rattle.attribution.proofs.Spent.{Spent, spent-keeps, all-spent-keeps, Origin, wiring-before, origin}
-use Rattle.attribution.proofs.Asked.{Asked, came, all-spent, own-clean, frame-same, clean-keeps, asked-same, latest-now, asked-more}
+use Rattle.attribution.proofs.WireSteps.{clean-keeps, frame-same, latest-now}
+use Rattle.attribution.proofs.Asked.{Asked, came, all-spent, own-clean, asked-same, asked-more}
 
 -- where a log stands: faulted, or with nothing open and nothing left to come, or with a request open
 pub record Stands (l : Log) (h : Past) : Type 0 where
@@ -174,7 +175,7 @@ module _ (o : Opening) (l : Log) (h : Past) (e : Entry) (i : Stands l h) (unaske
           let t = the-open (openRequest h) _ q x in
           let same = asked-same l h e (s .granted) (s .opening) (s .recovered) (s .byte) (t .found .request) (i .asked (t .found) (t .there)) in
           let a : Asked (e ∷ l) (e .seen ∷ h) q = subst (Asked (e ∷ l) (e .seen ∷ h)) (t .named) same in
-          let z : latestFrame (e .seen ∷ h) ≡ some k = frame-same l h e (s .granted) (s .opening) (s .recovered) (s .byte) ∙ y in
+          let z : latestFrame (e .seen ∷ h) ≡ some k = frame-same h e (s .granted) (s .byte) ∙ y in
           let d : e .seen .requests .delivered ≡ some (booked q k) = s .delivered ∙ rw (x, y) in
           record {
             stands = none-open (rw d) (λ w. all-spent (e ∷ l) (e .seen ∷ h) q k a z);

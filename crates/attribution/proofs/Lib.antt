@@ -6,10 +6,12 @@ pub mod Steps
 pub mod Calm
 pub mod Latest
 pub mod Spent
+pub mod WireSteps
 pub mod Asked
 pub mod CameFrom
 pub mod ByCuts
 pub mod Attributed
+pub mod Heard
 pub mod Timely
 pub mod ByTimes
 pub mod Lists

@@ -3,7 +3,7 @@
 use mathlib.Core.Path.{_≡_, refl, sym, _∙_, subst}
 use mathlib.Core.List.{[], _∷_}
 use mathlib.Core.Option.{Option, none, some}
-use mathlib.Core.Bool.{Bool, true, false, _||_, or-true, true≢false, false≢true}
+use mathlib.Core.Bool.{Bool, true, false, _||_, true≢false, false≢true}
 use Prim.Native.Nat.{ℕ, zero, suc, _+_, _-_, _*_, _^_, _≤_, _<_, min, max}
 use native.Mathlib.Omega.{arith}
 use native.Mathlib.Nat.{one-le-pow, le-mul-of-pos-right}
@@ -19,8 +19,7 @@ use Rattle.esc_unit.specs.Unit.{opens}
 use Rattle.esc_unit.specs.declared.record.Record.{Record}
 use Rattle.esc_unit.specs.declared.record.Record.the-variants as kind
 use Rattle.esc_unit.specs.declared.answer.Answer.the-variants as answer
-use Rattle.booking.specs.Maybe.{is}
-use Rattle.booking.specs.History.{Opening, Timed, Byte, Seen, Past, Since, seen}
+use Rattle.booking.specs.History.{Opening, Byte, Past, Since, seen}
 use Rattle.booking.specs.Faults.{faulted, quietSince, retries}
 use Rattle.booking.specs.Claims.{pastOf}
 use Rattle.attribution.specs.Marks.{Entry, Log, sinceIn, past}
@@ -30,75 +29,14 @@ use Rattle.attribution.specs.Times.{stamped, clockAt, byteAt, heardAt, q
 use Rattle.attribution.proofs.Both.{and-left, and-right}
 use Rattle.attribution.proofs.LawfulLog.{Lawful, start, opened, more}
 use Rattle.attribution.proofs.Steps.{Shows, Step, plain, grants, takes, answers, ends, restarts, step, entryOf, since-more}
+use Rattle.attribution.proofs.Heard.{earlier, clock-grows, clock-now, stamped-grant, stamped-byte, stamped-timeout, stamped-recovery, earlier-keeps, heard-keeps, heard-grant, heard-byte, fault-keeps, quiet-grows}
 use Rattle.attribution.proofs.Spent.{requests-keep}
-
--- how many requests are earlier than the latest recovery or opening
-abbrev pub earlier : Log → ℕ
-earlier l = max (atRecovery l) (atOpening l)
 
 pub record Timely (l : Log) (h : Past) (quiet : ℕ) : Type 0 where
   pub granted : earlier l ≤ length (requests l)
   pub heard : (k : ℕ) → heardAt k l ≤ clockAt l
   pub waits : faulted h ≡ true → (k : ℕ) → heardAt k l ≤ quietSince h
   pub rested : faulted h ≡ false → (k : ℕ) → k < earlier l → heardAt k l + quiet ≤ clockAt l
-
-clock-grows : (l : Log) (e : Entry) → clockAt l ≤ clockAt (e ∷ l)
-unfolding clockAt
-clock-grows l e = go (stamped (e .seen))
-  where
-    go : (b : Bool) → clockAt l ≤ pick b (max (clockAt l) (e .seen .now)) (clockAt l)
-    go true = omega arith
-    go false = omega arith
-
-clock-now : (l : Log) (e : Entry) → stamped (e .seen) ≡ true → e .seen .now ≤ clockAt (e ∷ l)
-unfolding clockAt
-clock-now l e s = rw s (omega arith)
-
-stamped-grant : (e : Seen) (g : Timed) → e .requests .granted ≡ some g → stamped e ≡ true
-stamped-grant e g x = rw x (or-true (is (e .opening)))
-
-pub stamped-byte : (e : Seen) (b : Byte) → e .wire .byte ≡ some b → stamped e ≡ true
-stamped-byte e b x = rw (x, or-true (is (e .requests .granted))) (or-true (is (e .opening)))
-
-stamped-timeout : (e : Seen) (t : EscManagerTimeout) → e .requests .timeout ≡ some t → stamped e ≡ true
-stamped-timeout e t x = rw (x, or-true (is (e .wire .byte)), or-true (is (e .requests .granted))) (or-true (is (e .opening)))
-
-stamped-recovery : (e : Seen) → e .requests .recovered ≡ true → stamped e ≡ true
-stamped-recovery e x = rw (x, or-true (is (e .requests .timeout)), or-true (is (e .wire .byte)), or-true (is (e .requests .granted))) (or-true (is (e .opening)))
-
-earlier-keeps : (l : Log) (e : Entry) → e .seen .requests .recovered ≡ false → e .seen .opening ≡ none → earlier (e ∷ l) ≡ earlier l
-unfolding atRecovery atOpening
-earlier-keeps l e r o = rw (r, o)
-
-heard-keeps : (l : Log) (e : Entry) (k : ℕ) → e .seen .requests .granted ≡ none → e .seen .wire .byte ≡ none → heardAt k (e ∷ l) ≡ heardAt k l
-unfolding heardAt
-heard-keeps l e k g b = rw (b, g)
-
-heard-grant : (l : Log) (e : Entry) (k : ℕ) (g : Timed) → e .seen .requests .granted ≡ some g → e .seen .wire .byte ≡ none
-    → heardAt k (e ∷ l) ≡ pick (eqb (length (requests l)) k) (g .at) (heardAt k l)
-unfolding heardAt
-heard-grant l e k g x b = rw (b, x)
-
-heard-byte : (l : Log) (e : Entry) (k : ℕ) (b : Byte) → e .seen .requests .granted ≡ none → e .seen .wire .byte ≡ some b
-    → heardAt k (e ∷ l) ≡ byteAt k (e .origin) (some b) (heardAt k l)
-unfolding heardAt
-heard-byte l e k b g x = rw (x, g)
-
-fault-keeps : (h : Past) (e : Seen) → e .requests .timeout ≡ none → e .requests .recovered ≡ false → faulted (e ∷ h) ≡ faulted h
-unfolding faulted
-fault-keeps h e t r = rw (t, r)
-
--- a byte or an acknowledgement moves the quiet start later, never earlier
-quiet-grows : (h : Past) (e : Seen) → e .requests .timeout ≡ none → quietSince h ≤ quietSince (e ∷ h)
-unfolding quietSince
-quiet-grows h e t = go (faulted h) refl (e .requests .acknowledged) refl (e .wire .byte) refl
-  where
-    go : (f : Bool) → faulted h ≡ f → (a : Option Timed) → e .requests .acknowledged ≡ a → (b : Option Byte) → e .wire .byte ≡ b → quietSince h ≤ quietSince (e ∷ h)
-    go f x none y none z = rw (t, y, z) (omega arith)
-    go true x (some a) y b z = rw (t, y, x) (omega arith)
-    go false x (some a) y b z = rw (t, y, x) (omega arith)
-    go true x none y (some b) z = rw (t, y, z, x) (omega arith)
-    go false x none y (some b) z = rw (t, y, z, x) (omega arith)
 
 -- a byte taken in while no fault stands is not of a request that has rested
 module _ (l : Log) (h : Past) (quiet now : ℕ) (i : Timely l h quiet) (f : faulted h ≡ false) (c : clockAt l ≤ now) where
