@@ -9,7 +9,7 @@ use native.Mathlib.Omega.{arith}
 use lib.Dec.{leb}
 use borrow.Author.Tests.{le-leb}
 use Rattle.booking.specs.Maybe.{is}
-use Rattle.booking.specs.History.{Byte, seen}
+use Rattle.booking.specs.History.{Byte}
 use Rattle.booking.specs.Faults.{faulted}
 use Rattle.attribution.specs.Marks.{Entry, Log, sinceIn, past}
 use Rattle.attribution.specs.Origin.{atRecovery, atOpening}

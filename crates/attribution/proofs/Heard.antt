@@ -10,7 +10,7 @@ use lib.Dec.{eqb}
 use Rattle.blheli_telemetry.specs.Choice.{pick}
 use Rattle.esc_feedback.specs.declared.answer.EscManagerTimeout.{EscManagerTimeout}
 use Rattle.booking.specs.Maybe.{is}
-use Rattle.booking.specs.History.{Timed, Byte, Seen, Past, seen}
+use Rattle.booking.specs.History.{Timed, Byte, Seen, Past}
 use Rattle.booking.specs.Faults.{faulted, quietSince}
 use Rattle.attribution.specs.Marks.{Entry, Log}
 use Rattle.attribution.specs.Origin.{requests, atRecovery, atOpening}

@@ -20,12 +20,15 @@ use Rattle.attribution.specs.Times.{steadyClock, prompt, patientOpening}
 use Rattle.attribution.specs.Cutting.{asking, cutFirst}
 use Rattle.attribution.proofs.ByRule.{traceMarked, marked-by-rule}
 
--- records: no boot delay, no period, acknowledgement timeout 20, response timeout 100, quiet time 500
+-- records: no boot delay, no period, acknowledgement timeout 20 where none is given, response timeout 100, quiet time 500
 abbrev unmarked : List ℕ → Marked
 unmarked bytes = record { call = roomy bytes; origin = none }
 
+abbrev pub openingWith : ℕ → ℕ → Marked
+openingWith ackTimeout t = unmarked (0x00 ∷ (bytesOf 4 0 ++ (bytesOf 4 0 ++ (bytesOf 4 ackTimeout ++ (bytesOf 4 100 ++ (bytesOf 4 500 ++ bytesOf 8 t))))))
+
 abbrev pub opening : ℕ → Marked
-opening t = unmarked (0x00 ∷ (bytesOf 4 0 ++ (bytesOf 4 0 ++ (bytesOf 4 20 ++ (bytesOf 4 100 ++ (bytesOf 4 500 ++ bytesOf 8 t))))))
+opening t = openingWith 20 t
 
 abbrev pub queue : ℕ → ℕ → ℕ → Marked
 queue s l t = unmarked (0x02 ∷ (bytesOf 4 s ++ l ∷ bytesOf 8 t))

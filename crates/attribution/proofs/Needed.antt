@@ -22,7 +22,7 @@ use Rattle.attribution.specs.Origin.{requests, sentBy, atRecovery, atOpe
 use Rattle.attribution.specs.Wiring.{always}
 use Rattle.attribution.specs.Times.{clockAt, heardAt}
 use Rattle.attribution.proofs.ByRule.{traceMarked}
-use Rattle.attribution.proofs.Lists.{opening, queue, acknowledge, poll, cut, recover, ask, zeros, e1, e2, e3, e4, e5, clock, answer, reopening, cutting, Row, row}
+use Rattle.attribution.proofs.Lists.{openingWith, opening, queue, acknowledge, poll, cut, recover, ask, zeros, e1, e2, e3, e4, e5, clock, answer, reopening, cutting, Row, row}
 use Rattle.attribution.proofs.Refuted.{Refuted, refuted-by}
 
 -- E1: noise makes a frame
@@ -50,13 +50,17 @@ eleventh = opening 0 ∷ queue 0 0 1 ∷ zeros 11 (some 0) 2 ++ (acknowledge 0 0
 abbrev pub late : List Marked
 late = opening 0 ∷ ask 0 0 1 ++ (poll 200 ∷ recover 700 ∷ ask 1 1 701 ++ zeros 10 (some 0) 702)
 
+-- the same to the ms: arm 0 answers 500 after its request
+abbrev pub punctual : List Marked
+punctual = openingWith 0 0 ∷ queue 0 0 1 ∷ poll 1 ∷ recover 501 ∷ ask 1 1 501 ++ zeros 10 (some 0) 501
+
 -- a clock that does not run back: arm 0 answers 399 after its request by a clock that was set back by 400
 abbrev pub back : List Marked
 back = opening 0 ∷ ask 0 0 1 ++ (poll 200 ∷ recover 700 ∷ ask 1 1 300 ++ zeros 10 (some 0) 400)
 
--- E5, a reopening that waits: the unit is opened anew while arm 1 has still to answer
+-- E5, a reopening that waits the quiet time: the unit is opened anew 499 after arm 1 was asked, and arm 1 has still to answer
 abbrev pub reopened : List Marked
-reopened = opening 0 ∷ ask 0 0 1 ++ (zeros 10 (some 0) 2 ++ (cut ∷ ask 1 1 3 ++ (opening 4 ∷ ask 0 0 4 ++ zeros 10 (some 1) 5)))
+reopened = opening 0 ∷ ask 0 0 1 ++ (zeros 10 (some 0) 2 ++ (cut ∷ ask 1 1 3 ++ (opening 502 ∷ ask 0 0 502 ++ zeros 10 (some 1) 502)))
 
 pub record Needed : Type 0 where
   pub noise-comes : Row (logAfter noise) (e1 ∷ []) (e1 ∷ []) (e1 ∷ []) (0 ∷ []) (replicate 10 none)
@@ -71,6 +75,8 @@ pub record Needed : Type 0 where
   pub eleventh-wrong : Refuted eleventh
   pub late-comes : Row (logAfter late) (e4 ∷ []) (answer ∷ []) (e4 ∷ []) (1 ∷ []) (replicate 10 (some 0))
   pub late-wrong : Refuted late
+  pub punctual-comes : Row (logAfter punctual) (e4 ∷ []) (answer ∷ []) (e4 ∷ []) (1 ∷ []) (replicate 10 (some 0))
+  pub punctual-wrong : Refuted punctual
   pub back-comes : Row (logAfter back) (e4 ∷ []) (clock ∷ []) (e4 ∷ []) (1 ∷ []) (replicate 10 (some 0))
   pub back-wrong : Refuted back
   pub reopened-comes : Row (logAfter reopened) (e5 ∷ []) (reopening ∷ []) (e5 ∷ []) (0 ∷ 0 ∷ []) (replicate 10 (some 0) ++ replicate 10 (some 1))
@@ -92,6 +98,8 @@ needed =
       eleventh-wrong = refuted-by eleventh refl refl;
       late-comes = row late;
       late-wrong = refuted-by late refl refl;
+      punctual-comes = row punctual;
+      punctual-wrong = refuted-by punctual refl refl;
       back-comes = row back;
       back-wrong = refuted-by back refl refl;
       reopened-comes = row reopened;

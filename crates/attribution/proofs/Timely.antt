@@ -32,6 +32,7 @@ use Rattle.attribution.proofs.Steps.{Shows, Step, plain, grants, takes,
 use Rattle.attribution.proofs.Heard.{earlier, clock-grows, clock-now, stamped-grant, stamped-byte, stamped-timeout, stamped-recovery, earlier-keeps, heard-keeps, heard-grant, heard-byte, fault-keeps, quiet-grows}
 use Rattle.attribution.proofs.Spent.{requests-keep}
 
+-- nothing was heard after the quiet start, nor within the quiet time before a recovery or an opening of the requests before it
 pub record Timely (l : Log) (h : Past) (quiet : ℕ) : Type 0 where
   pub granted : earlier l ≤ length (requests l)
   pub heard : (k : ℕ) → heardAt k l ≤ clockAt l
