@@ -8,8 +8,7 @@ use Rattle.esc_unit.specs.declared.unit.Unit.{Unit}
 use Rattle.booking.specs.History.{since}
 use Rattle.booking.specs.Rule.{ruleFor}
 use Rattle.booking.proofs.Traced.{Fits, called}
-use Rattle.attribution.specs.Marks.{Marked, MarkedHistory, feedMarked, runMarked}
-use Rattle.attribution.proofs.Unseen.{eventsOf}
+use Rattle.attribution.specs.Marks.{Marked, MarkedHistory, eventsOf, feedMarked, runMarked}
 
 unfoldable pub traceMarked : MarkedHistory → List Marked → MarkedHistory
 traceMarked h [] = h

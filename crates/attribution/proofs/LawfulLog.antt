@@ -18,8 +18,7 @@ use Rattle.esc_unit.specs.declared.answer.Answer.{Answer}
 use Rattle.esc_unit.specs.declared.answer.Answer.the-variants as answer
 use Rattle.booking.specs.History.{Since, seen, then, sinceEvent, since}
 use Rattle.booking.specs.Rule.{answerTo, replyTo, withRoom, replyOn, ruleFor}
-use Rattle.attribution.specs.Marks.{Marked, MarkedHistory, Log, entered, logOf, logAfter, sinceIn}
-use Rattle.attribution.proofs.Unseen.{eventsOf}
+use Rattle.attribution.specs.Marks.{Marked, MarkedHistory, eventsOf, Log, entered, logOf, logAfter, sinceIn}
 use Rattle.attribution.proofs.ByRule.{traceMarked, marked-by-rule}
 
 pub data Lawful : Log → Type 0 where

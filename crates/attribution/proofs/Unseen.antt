@@ -1,17 +1,11 @@
 -- The marks are not seen: a run with marks, without them, is the unit's run, since the unit gets the call and nothing else.
 use mathlib.Core.Path.{_≡_, refl}
-use mathlib.Core.List.{List, [], _∷_, map}
+use mathlib.Core.List.{List, [], _∷_}
 use Rattle.esc_unit.specs.Unit.{neverOpened, callOf}
 use Rattle.esc_unit.specs.declared.unit.Unit.{Unit}
-use Rattle.booking.specs.History.{Call, History}
 use Rattle.booking.specs.Run.{feed, run}
-use Rattle.attribution.specs.Marks.{Marked, MarkedHistory, MarkedEvent, feedMarked, runMarked}
-
-abbrev pub callsOf : List Marked → List Call
-callsOf ms = map (λ (m : Marked). m .call) ms
-
-abbrev pub eventsOf : MarkedHistory → History
-eventsOf h = map (λ (e : MarkedEvent). e .event) h
+use Rattle.attribution.specs.Marks.{Marked, MarkedHistory, callsOf, eventsOf, feedMarked, runMarked}
+use Rattle.attribution.specs.Attributed.{Unseen}
 
 feeds-unseen : (ms : List Marked) (u : Unit) (h : MarkedHistory) → eventsOf (feedMarked u h ms) ≡ feed u (eventsOf h) (callsOf ms) .history
 unfolding feedMarked feed
@@ -20,6 +14,6 @@ feeds-unseen (m ∷ ms) u h =
     feeds-unseen ms (callOf u (m .call .bytes) (m .call .room) .unit)
     (record { event = record { call = m .call; reply = callOf u (m .call .bytes) (m .call .room) .reply }; origin = m .origin } ∷ h)
 
-pub unseen : (ms : List Marked) → eventsOf (runMarked ms) ≡ run (callsOf ms) .history
+pub unseen : Unseen
 unfolding runMarked run
 unseen ms = feeds-unseen ms neverOpened []

@@ -1,4 +1,4 @@
--- The claim: a delivered sample was read from the bytes that its own request made an ESC send, and from nothing else.
+-- The claims: the marks are not seen, and a delivered sample was read from the bytes that its own request made an ESC send.
 use Prim.Native.Nat.{ℕ}
 use mathlib.Core.Path.{_≡_}
 use mathlib.Core.List.{List, [], _∷_, _++_, map}
@@ -9,11 +9,16 @@ use Rattle.blheli_telemetry.specs.Frame.{telemetryOf}
 use Rattle.esc_feedback.specs.declared.request.EscActuatorRequest.{EscActuatorRequest}
 use Rattle.esc_feedback.specs.declared.request.EscTelemetryUpdate.{EscTelemetryUpdate}
 use Rattle.booking.specs.History.{Byte}
-use Rattle.attribution.specs.Marks.{Marked, Entry, Log, logAfter}
+use Rattle.booking.specs.Run.{run}
+use Rattle.attribution.specs.Marks.{Marked, callsOf, eventsOf, runMarked, Entry, Log, logAfter}
 use Rattle.attribution.specs.Origin.{requests, sentBy, Taken, taken, sentAs}
 use Rattle.attribution.specs.Wiring.{noFault, Wiring}
 use Rattle.attribution.specs.Times.{Timing}
 use Rattle.attribution.specs.Cutting.{Cutting}
+
+-- the marks are not seen: without them, a run is the unit's
+abbrev pub Unseen : Type 0
+Unseen = (ms : List Marked) → eventsOf (runMarked ms) ≡ run (callsOf ms) .history
 
 abbrev pub values : List Byte → List ℕ
 values bs = map (λ (b : Byte). b .value) bs

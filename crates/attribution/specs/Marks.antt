@@ -1,6 +1,6 @@
 -- Calls with a mark that the unit never sees: whose bytes they are. And the log: what was accepted over a whole list, with the marks.
 use Prim.Native.Nat.{ℕ}
-use mathlib.Core.List.{List, [], _∷_}
+use mathlib.Core.List.{List, [], _∷_, map}
 use mathlib.Core.Option.{Option, none}
 use Rattle.blheli_telemetry.specs.Reply.{Reply, accepted, refused}
 use Rattle.esc_unit.specs.Record.{readRecord}
@@ -8,7 +8,7 @@ use Rattle.esc_unit.specs.Unit.{neverOpened, callOf}
 use Rattle.esc_unit.specs.declared.record.Record.{Record}
 use Rattle.esc_unit.specs.declared.answer.Answer.{Answer}
 use Rattle.esc_unit.specs.declared.unit.Unit.{Unit}
-use Rattle.booking.specs.History.{Call, Event, Seen, seen, Past, Since, then}
+use Rattle.booking.specs.History.{Call, Event, History, Seen, seen, Past, Since, then}
 use Rattle.booking.specs.Claims.{pastOf}
 
 -- a call, and of a 05 its origin: the request whose start made an ESC send the byte, by its number, which is how many were granted
@@ -24,6 +24,13 @@ pub record MarkedEvent : Type 0 where
 -- newest first
 abbrev pub MarkedHistory : Type 0
 MarkedHistory = List MarkedEvent
+
+-- without the marks
+abbrev pub callsOf : List Marked → List Call
+callsOf ms = map (λ (m : Marked). m .call) ms
+
+abbrev pub eventsOf : MarkedHistory → History
+eventsOf h = map (λ (e : MarkedEvent). e .event) h
 
 -- the calls are fed to the unit as in `run`; a mark is carried along and handed to nothing
 unfoldable pub feedMarked : Unit → MarkedHistory → List Marked → MarkedHistory
