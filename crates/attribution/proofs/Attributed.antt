@@ -168,7 +168,7 @@ quiet-more l s r o x f i j w =
     silent-l = subst Silent same (j .silent)
 
     known : (b : Byte) → e .seen .wire .byte ≡ some b → faulted (s .past) ≡ false → Origin l (e .origin)
-    known b y f = origin noFault l e w b y (rw (same, f))
+    known b y f = origin noFault l e w b y (ap not (ap faulted same ∙ f))
 
 silent-new : Silent []
 unfolding openRequest wire latest

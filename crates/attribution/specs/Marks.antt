@@ -12,7 +12,8 @@ use Rattle.booking.specs.History.{Call, Event, History, Seen, seen, Past, Since
 use Rattle.booking.specs.Claims.{pastOf}
 
 -- a call, and of a 05 its origin: the request whose start made an ESC send the byte, by its number, which is how many were granted
--- before it in the whole list. No origin is noise; on other kinds the mark says nothing
+-- before it in the whole list. No origin is noise; on other kinds the mark says nothing. That the ESC is the one on the request's lane is
+-- the harness's part
 pub record Marked : Type 0 where
   pub call : Call
   pub origin : Option ℕ

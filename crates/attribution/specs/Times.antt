@@ -44,11 +44,12 @@ quietOf (some s) = s .opening .config .«recovery_quiet_ms»
 abbrev pub quietTime : Log → ℕ
 quietTime l = quietOf (sinceIn l)
 
--- a clock that does not run back
+-- a clock that does not run back, by the T of these
 abbrev pub steadyClock : Test
 steadyClock l e = not (stamped (e .seen)) || leb (clockAt l) (e .seen .now)
 
--- an answer within the quiet time: a byte comes less than the quiet time after its request was granted or sent its byte before
+-- an answer within the quiet time: a byte comes less than the quiet time after its request was granted, or after that request's byte
+-- before it
 abbrev pub prompt : Test
 prompt l e = ofEachByte noFault (ofOrigin (λ k. ltb (e .seen .now) (heardAt k l + quietTime l))) l e
 
@@ -56,7 +57,7 @@ abbrev pub waitsFor : Log → Option Opening → Bool
 waitsFor l none = true
 waitsFor l (some o) = eqb (length (requests l)) 0 || leb (clockAt l + o .config .«recovery_quiet_ms») (o .boot)
 
--- a reopening that waits it out: once a request was granted, a 00 comes no sooner than its quiet time after all of these
+-- a reopening that waits it out: once a request was granted, a 00 comes no sooner than its own quiet time after the latest T of these
 abbrev pub patientOpening : Test
 patientOpening l e = waitsFor l (e .seen .opening)
 
