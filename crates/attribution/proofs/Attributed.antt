@@ -19,7 +19,7 @@ use Rattle.attribution.specs.Marks.{Entry, Log, sinceIn, past}
 use Rattle.attribution.specs.Origin.{requests}
 use Rattle.attribution.specs.Wiring.{noFault, Wiring}
 use Rattle.attribution.specs.Attributed.{Attributed}
-use Rattle.attribution.proofs.LawfulLog.{Lawful, opened, more, lawful-after}
+use Rattle.attribution.proofs.LawfulLog.{Lawful, opened, more, lawful-at}
 use Rattle.attribution.proofs.Steps.{Shows, Step, plain, grants, takes, answers, ends, restarts, step, entryOf, past-more}
 use Rattle.attribution.proofs.Calm.{Calm, calm}
 use Rattle.attribution.proofs.Latest.{Clean, clean-end}
@@ -182,6 +182,6 @@ quiet (e ∷ l) (opened c t o i) w =
 quiet (e ∷ l) (more s r o x f i) w = quiet-more l s r o x f i (quiet l i (wiring-before noFault l e w)) w
 
 pub attributed : Attributed
-attributed ms e l u x d w =
-    let i : Lawful (e ∷ l) = subst Lawful x (lawful-after ms) in
+attributed ms later e l u x d w =
+    let i = lawful-at ms later (e ∷ l) x in
     came-from noFault covers e l u i w (quiet (e ∷ l) i w .granting) d

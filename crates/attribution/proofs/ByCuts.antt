@@ -1,5 +1,5 @@
 -- A wire just cut is clean, so a caller that cuts before each request needs the five assumptions only while a request is open.
-use mathlib.Core.Path.{_≡_, refl, subst}
+use mathlib.Core.Path.{_≡_, refl}
 use mathlib.Core.List.{List, [], _∷_}
 use mathlib.Core.Bool.{true, false≢true}
 use Rattle.booking.specs.Wire.{OnWire, byte, cut, wire, latest}
@@ -8,7 +8,7 @@ use Rattle.attribution.specs.Wiring.{always}
 use Rattle.attribution.specs.Cutting.{asking, justCut, cutFirst}
 use Rattle.attribution.specs.Attributed.{AttributedByCuts}
 use Rattle.attribution.proofs.Both.{and-left, and-right}
-use Rattle.attribution.proofs.LawfulLog.{Lawful, lawful-after}
+use Rattle.attribution.proofs.LawfulLog.{lawful-at}
 use Rattle.attribution.proofs.Latest.{Clean}
 use Rattle.attribution.proofs.CameFrom.{CleanGrants, came-from}
 
@@ -25,4 +25,4 @@ clean-grants (e ∷ l) c =
     (λ g x. cut-clean (wire (past l)) (rw x at (and-left (cutFirst l e) (always cutFirst l) c)), clean-grants l (and-right (cutFirst l e) (always cutFirst l) c))
 
 pub attributed-by-cuts : AttributedByCuts
-attributed-by-cuts ms e l u x d a = came-from asking (λ l i k. k) e l u (subst Lawful x (lawful-after ms)) (a .wiring) (clean-grants (e ∷ l) (a .cuts)) d
+attributed-by-cuts ms later e l u x d a = came-from asking (λ l i k. k) e l u (lawful-at ms later (e ∷ l) x) (a .wiring) (clean-grants (e ∷ l) (a .cuts)) d

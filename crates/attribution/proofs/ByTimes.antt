@@ -1,6 +1,6 @@
 -- No byte is of a request before the latest recovery or opening, since it would come later than the quiet time: so the two assumptions on
 -- quiet follow from times.
-use mathlib.Core.Path.{_≡_, refl, subst}
+use mathlib.Core.Path.{_≡_, refl}
 use mathlib.Core.List.{[], _∷_}
 use mathlib.Core.Option.{Option, none, some}
 use mathlib.Core.Bool.{Bool, true, false, not, _&&_, _||_}
@@ -16,7 +16,7 @@ use Rattle.attribution.specs.Origin.{atRecovery, atOpening}
 use Rattle.attribution.specs.Wiring.{always, noFault, ofOrigin, ofEachByte, quietRecovery, quietOpening}
 use Rattle.attribution.specs.Times.{clockAt, quietTime}
 use Rattle.attribution.specs.Attributed.{AttributedByTimes}
-use Rattle.attribution.proofs.LawfulLog.{Lawful, opened, more, lawful-after}
+use Rattle.attribution.proofs.LawfulLog.{Lawful, opened, more, lawful-at}
 use Rattle.attribution.proofs.Attributed.{attributed}
 use Rattle.attribution.proofs.Heard.{earlier, stamped-byte}
 use Rattle.attribution.proofs.Timely.{not-earlier, TimelySince, Times, times-before, clock-holds, answer-now, timely}
@@ -55,6 +55,6 @@ quiets (e ∷ l) (opened c b o i) t = quiets-more l e (quiets l i (times-before 
 quiets (e ∷ l) (more s r o x f i) t = quiets-more l e (quiets l i (times-before l e t)) (timely l i (times-before l e t)) t
 
 pub attributed-by-times : AttributedByTimes
-attributed-by-times ms e l u x d t =
-    let q = quiets (e ∷ l) (subst Lawful x (lawful-after ms)) (record { clock = t .clock; prompts = t .answer; reopening = t .reopening }) in
-    attributed ms e l u x d (record { e1 = t .e1; e2 = t .e2; e3 = t .e3; e4 = q .e4; e5 = q .e5 })
+attributed-by-times ms later e l u x d t =
+    let q = quiets (e ∷ l) (lawful-at ms later (e ∷ l) x) (record { clock = t .clock; prompts = t .answer; reopening = t .reopening }) in
+    attributed ms later e l u x d (record { e1 = t .e1; e2 = t .e2; e3 = t .e3; e4 = q .e4; e5 = q .e5 })

@@ -1,6 +1,6 @@
 -- Each entry of a log is a 00 or a record with the rule's answer to it, since every reply is the rule's.
 use mathlib.Core.Path.{_≡_, refl, sym, ap, subst}
-use mathlib.Core.List.{List, [], _∷_}
+use mathlib.Core.List.{List, [], _∷_, _++_}
 use mathlib.Core.Option.{Option, none, some}
 use mathlib.Core.Bool.{Bool, true, false}
 use Prim.Native.Nat.{ℕ}
@@ -99,6 +99,15 @@ lawful-trace (m ∷ ms) h i =
     lawful-trace ms (record { event = record { call = m .call; reply = ruleFor (eventsOf h) (m .call) }; origin = m .origin } ∷ h)
     (lawful-entry (logOf h) (m .origin) (m .call .room) i (since (eventsOf h)) (sym (since-in h)) (readRecord (m .call .bytes)))
 
-pub lawful-after : (ms : List Marked) → Lawful (logAfter ms)
+lawful-after : (ms : List Marked) → Lawful (logAfter ms)
 unfolding logOf
 lawful-after ms = subst (λ (h : MarkedHistory). Lawful (logOf h)) (sym (marked-by-rule ms)) (lawful-trace ms [] start)
+
+-- what a log was before its later entries
+lawful-before : (later l : Log) → Lawful (later ++ l) → Lawful l
+lawful-before [] l i = i
+lawful-before (e ∷ later) l (opened c t o i) = lawful-before later l i
+lawful-before (e ∷ later) l (more s r o x f i) = lawful-before later l i
+
+pub lawful-at : (ms : List Marked) (later l : Log) → logAfter ms ≡ later ++ l → Lawful l
+lawful-at ms later l x = lawful-before later l (subst Lawful x (lawful-after ms))

@@ -69,7 +69,7 @@ shown-by Assumed claim ms = go (ruleLog ms) (ap logOf (marked-by-rule ms))
       where
         sampled : (u : Option EscTelemetryUpdate) → e .seen .requests .delivered ≡ u → is u ≡ true → Shown ms
         sampled none y z = absurd (false≢true z)
-        sampled (some u) y z = record { entry = e; before = l; sample = u; newest = x; delivers = y; came = claim ms e l u x y a }
+        sampled (some u) y z = record { entry = e; before = l; sample = u; newest = x; delivers = y; came = claim ms [] e l u x y a }
 
 pub record Live : Type 0 where
   pub flight-comes : Row (logAfter flight) [] [] [] (0 ∷ 2 ∷ 0 ∷ [])

@@ -46,12 +46,11 @@ pub record CameFrom (l : Log) (u : EscTelemetryUpdate) : Type 0 where
   pub says : u .observation .sample ≡ telemetryOf (values (frame .nine ++ frame .check ∷ []))
   pub when : frame .check .at ≡ u .observation .«observed_at_ms»
 
--- after every list of calls fed to a unit never opened: where its newest accepted record delivers a sample and what is assumed holds
--- up to there
+-- for each sample delivered in every list of calls fed to a unit never opened, where what is assumed holds up to its delivery
 abbrev pub AttributedIf : (Log → Type 0) → Type 0
 AttributedIf Assumed =
-    (ms : List Marked) (e : Entry) (l : Log) (u : EscTelemetryUpdate)
-    → logAfter ms ≡ e ∷ l
+    (ms : List Marked) (later : Log) (e : Entry) (l : Log) (u : EscTelemetryUpdate)
+    → logAfter ms ≡ later ++ e ∷ l
     → e .seen .requests .delivered ≡ some u
     → Assumed (e ∷ l)
     → CameFrom (e ∷ l) u
