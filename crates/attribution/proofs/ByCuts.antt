@@ -1,0 +1,28 @@
+-- A wire just cut is clean, so a caller that cuts before each request needs the five assumptions only while a request is open.
+use mathlib.Core.Path.{_≡_, refl}
+use mathlib.Core.List.{List, [], _∷_}
+use mathlib.Core.Bool.{true, false≢true}
+use Rattle.booking.specs.Wire.{OnWire, byte, cut, wire, latest}
+use Rattle.attribution.specs.Marks.{Log, past}
+use Rattle.attribution.specs.Wiring.{always}
+use Rattle.attribution.specs.Cutting.{asking, justCut, cutFirst}
+use Rattle.attribution.specs.Attributed.{AttributedByCuts}
+use Rattle.attribution.proofs.Both.{and-left, and-right}
+use Rattle.attribution.proofs.LawfulLog.{lawful-at}
+use Rattle.attribution.proofs.Latest.{Clean}
+use Rattle.attribution.proofs.CameFrom.{CleanGrants, came-from}
+
+cut-clean : (w : List OnWire) → justCut w ≡ true → Clean w
+unfolding latest
+cut-clean [] e = refl
+cut-clean (cut ∷ w) e = refl
+cut-clean (byte b ∷ w) e = absurd (false≢true e)
+
+clean-grants : (l : Log) → always cutFirst l ≡ true → CleanGrants l
+unfolding always
+clean-grants [] c = tt
+clean-grants (e ∷ l) c =
+    (λ g x. cut-clean (wire (past l)) (rw x at (and-left (cutFirst l e) (always cutFirst l) c)), clean-grants l (and-right (cutFirst l e) (always cutFirst l) c))
+
+pub attributed-by-cuts : AttributedByCuts
+attributed-by-cuts ms later e l u x d a = came-from asking (λ l i k. k) e l u (lawful-at ms later (e ∷ l) x) (a .wiring) (clean-grants (e ∷ l) (a .cuts)) d

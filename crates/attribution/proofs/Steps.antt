@@ -1,0 +1,152 @@
+-- What one more entry of a log can be: the rule's answer to each kind of record, by what it shows of requests, wire and openings.
+use mathlib.Core.Path.{_≡_, refl, ap}
+use mathlib.Core.List.{_∷_}
+use mathlib.Core.Option.{Option, none, some, Option·none-ne-some}
+use mathlib.Core.Bool.{Bool, true, false, not, true≢false}
+use Prim.Native.Nat.{ℕ, _-_, _*_, _^_, _≤_, min}
+use borrow.Author.Tests.{leb-true}
+use Rattle.esc_feedback.specs.declared.request.EscActuatorRequest.{EscActuatorRequest}
+use Rattle.esc_feedback.specs.declared.request.EscActuatorAck.{EscActuatorAck}
+use Rattle.esc_feedback.specs.declared.request.EscTelemetryUpdate.{EscTelemetryUpdate}
+use Rattle.esc_feedback.specs.declared.answer.EscManagerTimeout.{EscManagerTimeout}
+use Rattle.esc_feedback.specs.declared.answer.EscManagerTimeout.the-variants as timeout
+use Rattle.esc_unit.specs.Unit.{opens}
+use Rattle.esc_unit.specs.declared.record.Record.{Record}
+use Rattle.esc_unit.specs.declared.record.Record.the-variants as kind
+use Rattle.esc_unit.specs.declared.answer.IdleAnswer.{IdleAnswer}
+use Rattle.esc_unit.specs.declared.answer.Answer.the-variants as answer
+use Rattle.booking.specs.History.{Opening, Timed, Byte, Seen, Past, Since, seen}
+use Rattle.booking.specs.Wire.{Frame, wire, frameAt, timed}
+use Rattle.booking.specs.Booking.{bookedTo, openRequest, latestFrame, newlyStarted, startedRequest}
+use Rattle.booking.specs.Faults.{faulted, quietSince, retries, expired, recovers}
+use Rattle.booking.specs.Turns.{existing, names}
+use Rattle.booking.specs.Claims.{pastOf}
+use Rattle.booking.specs.Rule.{ackAnswer, wireAnswerOf, answerTo}
+use Rattle.attribution.specs.Marks.{Entry, Log, sinceIn, past}
+use Rattle.attribution.proofs.Both.{and-left, and-right}
+
+-- all of an entry that attribution reads, but a cut and the time
+pub record Shows (e : Seen) (g : Option Timed) (b : Option Byte) (d : Option EscTelemetryUpdate) (t : Option EscManagerTimeout) (r : Bool) : Type 0 where
+  pub opening : e .opening ≡ none
+  pub granted : e .requests .granted ≡ g
+  pub byte : e .wire .byte ≡ b
+  pub delivered : e .requests .delivered ≡ d
+  pub timeout : e .requests .timeout ≡ t
+  pub recovered : e .requests .recovered ≡ r
+
+pub data Step (o : Opening) (h : Past) (e : Seen) : Type 0 where
+  -- nothing of these
+  plain : Shows e none none none none false → Step o h e
+  -- a 02 answered yes: none was open and no fault stood
+  grants : (q : EscActuatorRequest) → openRequest h ≡ none → faulted h ≡ false → Shows e (some (record { request = q; at = e .now })) none none none false → Step o h e
+  -- a 05
+  takes : (b : ℕ) → e .requests .acknowledged ≡ none → Shows e none (some (record { value = b; at = e .now })) (bookedTo (startedRequest h) (timed (frameAt (wire h) b) (e .now))) none false → Step o h e
+  -- a 03
+  answers : (q : EscActuatorRequest) → Shows e none none (bookedTo (newlyStarted h q) (latestFrame h)) none false → Step o h e
+  -- a 04 answered with a timeout
+  ends : (t : EscManagerTimeout) → Shows e none none none (some t) false → Step o h e
+  -- a 07 answered yes: a fault stood, and the quiet time had passed
+  restarts : e .wire .cut ≡ true → faulted h ≡ true → o .config .«recovery_quiet_ms» * 2 ^ min (retries h) 3 ≤ e .now - quietSince h
+      → Shows e none none none none true → Step o h e
+
+shows : (e : Seen) → e .opening ≡ none → Shows e (e .requests .granted) (e .wire .byte) (e .requests .delivered) (e .requests .timeout) (e .requests .recovered)
+shows e o = record { opening = o; granted = refl; byte = refl; delivered = refl; timeout = refl; recovered = refl }
+
+module _ (o : Opening) (h : Past) where
+  -- a request exists only where none is open and no fault stands
+  record Free : Type 0 where
+    unasked : openRequest h ≡ none
+    calm : faulted h ≡ false
+
+  existing-free : (now : ℕ) (q : EscActuatorRequest) → existing o h now ≡ some q → Free
+  unfolding existing
+  existing-free now q e = go (faulted h) refl (openRequest h) refl
+    where
+      go : (f : Bool) → faulted h ≡ f → (x : Option Timed) → openRequest h ≡ x → Free
+      go false f none x = record { unasked = x; calm = f }
+      go true f x y = absurd (Option·none-ne-some q (rw f at e))
+      go false f (some p) y = absurd (Option·none-ne-some q (rw (f, y) at e))
+
+  mark-step : (q : EscActuatorRequest) (now : ℕ) → Step o h (seen (kind.MarkRequestQueued q now) (answer.Decided (names (existing o h now) q)))
+  mark-step q now = go (existing o h now) refl
+    where
+      go : (x : Option EscActuatorRequest) → existing o h now ≡ x → Step o h (seen (kind.MarkRequestQueued q now) (answer.Decided (names x q)))
+      go none e = plain (shows _ refl)
+      go (some p) e = named (names (some p) q)
+        where
+          free : Free
+          free = existing-free now p e
+
+          named : (y : Bool) → Step o h (seen (kind.MarkRequestQueued q now) (answer.Decided y))
+          named true = grants q (free .unasked) (free .calm) (shows _ refl)
+          named false = plain (shows _ refl)
+
+  ack-step : (k : EscActuatorAck) (now : ℕ) (says : EscTelemetryUpdate → IdleAnswer)
+      → Step o h (seen (kind.ActuatorAck k now) (answer.Ack (ackAnswer (newlyStarted h (k .request)) (latestFrame h) says)))
+  ack-step k now says = answers (k .request) (go (newlyStarted h (k .request)) (latestFrame h))
+    where
+      go : (x : Option EscActuatorRequest) (f : Option Frame) → Shows (seen (kind.ActuatorAck k now) (answer.Ack (ackAnswer x f says))) none none (bookedTo x f) none false
+      go none f = shows _ refl
+      go (some q) none = shows _ refl
+      go (some q) (some f) = shows _ refl
+
+  byte-step : (b now : ℕ) (says : EscTelemetryUpdate → IdleAnswer)
+      → Step o h (seen (kind.WireByte b now) (answer.Wire (wireAnswerOf (bookedTo (startedRequest h) (timed (frameAt (wire h) b) now)) says)))
+  byte-step b now says = takes b refl (go (bookedTo (startedRequest h) (timed (frameAt (wire h) b) now)))
+    where
+      go : (u : Option EscTelemetryUpdate) → Shows (seen (kind.WireByte b now) (answer.Wire (wireAnswerOf u says))) none (some (record { value = b; at = now })) u none false
+      go none = shows _ refl
+      go (some u) = shows _ refl
+
+  poll-step : (now : ℕ) (t : EscManagerTimeout) → Step o h (seen (kind.PollTimeout now) (answer.Timeout t))
+  poll-step now timeout.None = plain (shows _ refl)
+  poll-step now (timeout.ActuatorAck q) = ends (timeout.ActuatorAck q) (shows _ refl)
+  poll-step now (timeout.TelemetryResponse q) = ends (timeout.TelemetryResponse q) (shows _ refl)
+
+  recover-step : (armed : Bool) (now : ℕ) → Step o h (seen (kind.TryRecover armed now) (answer.Decided (recovers o h armed now)))
+  unfolding recovers
+  recover-step armed now = go (recovers o h armed now) refl
+    where
+      go : (y : Bool) → recovers o h armed now ≡ y → Step o h (seen (kind.TryRecover armed now) (answer.Decided y))
+      go false e = plain (shows _ refl)
+      go true e =
+          restarts refl (and-left (faulted h) _ e) (leb-true _ _ (and-right (not armed) _ (and-right (faulted h) _ e)))
+          (shows _ refl)
+
+  pub step : (r : Record) → opens r ≡ false → Step o h (seen r (answerTo o h r))
+  step (kind.Open c t) f = absurd (true≢false f)
+  step (kind.NextRequest now) f = plain (shows _ refl)
+  step (kind.MarkRequestQueued q now) f = mark-step q now
+  step (kind.ActuatorAck k now) f = ack-step k now _
+  step (kind.PollTimeout now) f = poll-step now (expired o h now)
+  step (kind.WireByte b now) f = byte-step b now _
+  step kind.WireDiscontinuity f = plain (shows _ refl)
+  step (kind.TryRecover armed now) f = recover-step armed now
+  step kind.TakeBackAfterRetries f = plain (shows _ refl)
+  step kind.RefreshWireStats f = plain (shows _ refl)
+  step (kind.IdleCheck c t) f = plain (shows _ refl)
+  step (kind.IdleStatus now) f = plain (shows _ refl)
+  step kind.Report f = plain (shows _ refl)
+  step (kind.StoredSample n) f = plain (shows _ refl)
+  step (kind.Figures n) f = plain (shows _ refl)
+
+-- the entry of a record that is no 00, and what has come since the opening with it
+abbrev pub entryOf : Since → Record → Option ℕ → Entry
+entryOf s r o = record { seen = seen r (answerTo (s .opening) (s .past) r); origin = o }
+
+step-opening : (o : Opening) (h : Past) (e : Seen) → Step o h e → e .opening ≡ none
+step-opening o h e (plain s) = s .opening
+step-opening o h e (grants q n f s) = s .opening
+step-opening o h e (takes b a s) = s .opening
+step-opening o h e (answers q s) = s .opening
+step-opening o h e (ends t s) = s .opening
+step-opening o h e (restarts c f w s) = s .opening
+
+pub since-more : (l : Log) (s : Since) (r : Record) (o : Option ℕ) → sinceIn l ≡ some s → opens r ≡ false
+    → sinceIn (entryOf s r o ∷ l) ≡ some (record { opening = s .opening; past = entryOf s r o .seen ∷ s .past })
+unfolding sinceIn
+since-more l s r o x f = rw (x, step-opening (s .opening) (s .past) (entryOf s r o .seen) (step (s .opening) (s .past) r f))
+
+pub past-more : (l : Log) (s : Since) (r : Record) (o : Option ℕ) → sinceIn l ≡ some s → opens r ≡ false
+    → past (entryOf s r o ∷ l) ≡ entryOf s r o .seen ∷ s .past
+past-more l s r o x f = ap pastOf (since-more l s r o x f)

@@ -1,0 +1,68 @@
+-- The claims: the marks are not seen, and a delivered sample was read from the bytes that its own request made an ESC send.
+use Prim.Native.Nat.{ℕ}
+use mathlib.Core.Path.{_≡_}
+use mathlib.Core.List.{List, [], _∷_, _++_, map}
+use mathlib.Core.Option.{some}
+use lib.ListN.{length}
+use Rattle.blheli_telemetry.specs.Crc.{crcOf}
+use Rattle.blheli_telemetry.specs.Frame.{telemetryOf}
+use Rattle.esc_feedback.specs.declared.request.EscActuatorRequest.{EscActuatorRequest}
+use Rattle.esc_feedback.specs.declared.request.EscTelemetryUpdate.{EscTelemetryUpdate}
+use Rattle.booking.specs.History.{Byte}
+use Rattle.booking.specs.Run.{run}
+use Rattle.attribution.specs.Marks.{Marked, callsOf, eventsOf, runMarked, Entry, Log, logAfter}
+use Rattle.attribution.specs.Origin.{requests, sentBy, Taken, taken, sentAs}
+use Rattle.attribution.specs.Wiring.{noFault, Wiring}
+use Rattle.attribution.specs.Times.{Timing}
+use Rattle.attribution.specs.Cutting.{Cutting}
+
+-- the marks are not seen: without them, a run is the unit's
+abbrev pub Unseen : Type 0
+Unseen = (ms : List Marked) → eventsOf (runMarked ms) ≡ run (callsOf ms) .history
+
+abbrev pub values : List Byte → List ℕ
+values bs = map (λ (b : Byte). b .value) bs
+
+-- the request that a sample is booked to
+abbrev pub bookedOn : EscTelemetryUpdate → EscActuatorRequest
+bookedOn u = record { sequence = u .observation .«request_sequence»; output = u .output }
+
+-- all that request k made an ESC send, as far as it came in, is nine bytes and their check byte, and no byte came in after them
+pub record SentFrame (l : Log) (k : ℕ) : Type 0 where
+  pub nine : List Byte
+  pub check : Byte
+  pub count : length nine ≡ 9
+  pub checks : check .value ≡ crcOf (values nine)
+  pub sent : sentBy k l ≡ nine ++ check ∷ []
+  pub others : List Taken
+  pub newest : taken l ≡ others ++ sentAs k (nine ++ check ∷ [])
+
+-- the request that the sample is booked to is the latest granted, and all that this request made an ESC send, as far as it came in, is
+-- the sample's nine bytes and their check byte, the last at the sample's time
+pub record CameFrom (l : Log) (u : EscTelemetryUpdate) : Type 0 where
+  pub earlier : List EscActuatorRequest
+  pub latest : requests l ≡ bookedOn u ∷ earlier
+  pub frame : SentFrame l (length earlier)
+  pub says : u .observation .sample ≡ telemetryOf (values (frame .nine ++ frame .check ∷ []))
+  pub when : frame .check .at ≡ u .observation .«observed_at_ms»
+
+-- for each sample delivered in every list of calls fed to a unit never opened, where what is assumed holds up to its delivery
+abbrev pub AttributedIf : (Log → Type 0) → Type 0
+AttributedIf Assumed =
+    (ms : List Marked) (later : Log) (e : Entry) (l : Log) (u : EscTelemetryUpdate)
+    → logAfter ms ≡ later ++ e ∷ l
+    → e .seen .requests .delivered ≡ some u
+    → Assumed (e ∷ l)
+    → CameFrom (e ∷ l) u
+
+-- with the five assumptions, of bytes taken in while no fault stands
+abbrev pub Attributed : Type 0
+Attributed = AttributedIf (Wiring noFault)
+
+-- with times in place of the two on quiet
+abbrev pub AttributedByTimes : Type 0
+AttributedByTimes = AttributedIf Timing
+
+-- of a caller that cuts before each request, with the five assumptions of bytes taken in while a request is open
+abbrev pub AttributedByCuts : Type 0
+AttributedByCuts = AttributedIf Cutting

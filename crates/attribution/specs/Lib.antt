@@ -1,0 +1,6 @@
+pub mod Marks
+pub mod Origin
+pub mod Wiring
+pub mod Times
+pub mod Cutting
+pub mod Attributed

@@ -1,0 +1,70 @@
+-- Times in place of the two assumptions on quiet: what can be measured.
+use Prim.Native.Nat.{ℕ, _+_, max}
+use mathlib.Core.Path.{_≡_}
+use mathlib.Core.Bool.{Bool, true, not, _||_}
+use mathlib.Core.List.{[], _∷_}
+use mathlib.Core.Option.{Option, none, some}
+use lib.Dec.{eqb, leb, ltb}
+use lib.ListN.{length}
+use Rattle.blheli_telemetry.specs.Choice.{pick}
+use Rattle.booking.specs.Maybe.{is}
+use Rattle.booking.specs.History.{Opening, Timed, Byte, Seen, Since}
+use Rattle.attribution.specs.Marks.{Log, sinceIn}
+use Rattle.attribution.specs.Origin.{requests}
+use Rattle.attribution.specs.Wiring.{Test, always, noFault, ofOrigin, ofEachByte, noNoise, askedFirst, oneFrame}
+
+-- a 00, a 02 answered yes, a 05, a 04 answered with a timeout, a 07 answered yes
+abbrev pub stamped : Seen → Bool
+stamped s = is (s .opening) || (is (s .requests .granted) || (is (s .wire .byte) || (is (s .requests .timeout) || s .requests .recovered)))
+
+-- the latest T of these
+unfoldable pub clockAt : Log → ℕ
+clockAt [] = 0
+clockAt (e ∷ l) = pick (stamped (e .seen)) (max (clockAt l) (e .seen .now)) (clockAt l)
+
+abbrev pub grantAt : ℕ → ℕ → Option Timed → ℕ → ℕ
+grantAt k number none t = t
+grantAt k number (some g) t = pick (eqb number k) (g .at) t
+
+abbrev pub byteAt : ℕ → Option ℕ → Option Byte → ℕ → ℕ
+byteAt k origin none t = t
+byteAt k none (some b) t = t
+byteAt k (some j) (some b) t = pick (eqb j k) (b .at) t
+
+-- the T at which request k was granted, or that of the latest byte that it made an ESC send
+unfoldable pub heardAt : ℕ → Log → ℕ
+heardAt k [] = 0
+heardAt k (e ∷ l) = byteAt k (e .origin) (e .seen .wire .byte) (grantAt k (length (requests l)) (e .seen .requests .granted) (heardAt k l))
+
+abbrev pub quietOf : Option Since → ℕ
+quietOf none = 0
+quietOf (some s) = s .opening .config .«recovery_quiet_ms»
+
+-- the quiet time of the latest 00
+abbrev pub quietTime : Log → ℕ
+quietTime l = quietOf (sinceIn l)
+
+-- a clock that does not run back, by the T of these
+abbrev pub steadyClock : Test
+steadyClock l e = not (stamped (e .seen)) || leb (clockAt l) (e .seen .now)
+
+-- an answer within the quiet time: a byte comes less than the quiet time after its request was granted, or after that request's byte
+-- before it
+abbrev pub prompt : Test
+prompt l e = ofEachByte noFault (ofOrigin (λ k. ltb (e .seen .now) (heardAt k l + quietTime l))) l e
+
+abbrev pub waitsFor : Log → Option Opening → Bool
+waitsFor l none = true
+waitsFor l (some o) = eqb (length (requests l)) 0 || leb (clockAt l + o .config .«recovery_quiet_ms») (o .boot)
+
+-- a reopening that waits it out: once a request was granted, a 00 comes no sooner than its own quiet time after the latest T of these
+abbrev pub patientOpening : Test
+patientOpening l e = waitsFor l (e .seen .opening)
+
+pub record Timing (l : Log) : Type 0 where
+  pub e1 : always (noNoise noFault) l ≡ true
+  pub e2 : always (askedFirst noFault) l ≡ true
+  pub e3 : always (oneFrame noFault) l ≡ true
+  pub clock : always steadyClock l ≡ true
+  pub answer : always prompt l ≡ true
+  pub reopening : always patientOpening l ≡ true
