@@ -307,7 +307,7 @@ fn expiry(s: &mut Session) {
     s.send(Record::Status(t + limit));
     deliver(s, 50, t, Some(t + limit - 1));
     deliver(s, 50, t, Some(t + limit));
-    // the verdict's time would hide it: begin anew, later
+    // a new check, whose timeout shows the counts
     s.send(Record::Idle(idle(30, 100, 0, 10, age, 1), t + limit));
     either(s, 50, t + limit);
     s.send(Record::Status(t + limit + 10));
