@@ -42,6 +42,8 @@ struct State {
     note: Option<u32>,
     taken: bool,
     held: Vec<u8>,
+    /// Of them, those from before the latest timeout.
+    torn: usize,
     discarded: u32,
     renewed: bool,
     stored: [bool; 4],
@@ -183,6 +185,7 @@ impl Coverage {
             note: None,
             taken: false,
             held: Vec::new(),
+            torn: 0,
             discarded: 0,
             renewed: true,
             stored: [false; 4],
@@ -297,7 +300,7 @@ impl Coverage {
                 }
                 if out.is_some() {
                     self.count_if(!s.held.is_empty(), "04 timeout inside a frame", 0);
-                    (s.open, s.faulted, s.quiet) = (None, true, t);
+                    (s.open, s.faulted, s.quiet, s.torn) = (None, true, t, s.held.len());
                 }
             }
             (Record::Byte(b, t), a) => {
@@ -311,13 +314,16 @@ impl Coverage {
                     self.count("05 a wrong check byte", 0);
                     (whole, s.renewed) = (false, false);
                     s.held.remove(0);
+                    s.torn = s.torn.saturating_sub(1);
                     s.discarded += 1;
                 }
                 if whole {
                     self.count_if(s.discarded > 0 && s.discarded < 10, "05 a frame after a dropped byte", 0);
                     self.count_if(s.discarded >= 10, "05 a frame after a damaged one", 0);
                     self.count_if(s.held[0] == 0, "05 a frame that begins with 00", 0);
+                    self.count_if(s.torn > 0, "05 a frame over a timeout", 0);
                     s.held.clear();
+                    s.torn = 0;
                     (s.discarded, s.renewed) = (0, true);
                 }
                 match a {
@@ -346,7 +352,7 @@ impl Coverage {
             (Record::Cut, _) => {
                 self.count("06 with bytes held", s.held.len() as u64);
                 s.held.clear();
-                s.discarded = 0;
+                (s.discarded, s.torn) = (0, 0);
                 s.open.iter_mut().for_each(|o| o.begun = 0);
             }
             (Record::Recover(armed, t), a) => {
@@ -364,7 +370,7 @@ impl Coverage {
                     s.figures_before_recovery = s.figures;
                     s.retries += 1;
                     s.held.clear();
-                    s.discarded = 0;
+                    (s.discarded, s.torn) = (0, 0);
                 } else {
                     self.count("07 no", 0);
                     self.count_if(!s.faulted, "07 no, not faulted", 0);
@@ -481,11 +487,15 @@ impl Coverage {
             }
         }
         let limit = c.max_sample_age_ms.saturating_add(1);
+        let (mut oldest, mut expired) = (false, false);
         for l in 0..4 {
             let Some(observed) = q.newest[l] else { continue };
-            self.count_if(one_early(observed, now, limit) && limit != c.max_sample_age_ms, "a sample at its age limit", 0);
+            let at_age = one_early(observed, now, limit) && limit != c.max_sample_age_ms;
+            self.count_if(at_age, "a sample at its age limit", 0);
             self.count_if(at_limit(observed, now, limit), "a sample expired by a ms", 0);
             self.count_if(at_limit(observed, now, limit) && limit == c.max_sample_age_ms, "age 2^32 - 1 expires at 2^32 - 1", 0);
+            oldest |= at_age;
+            expired |= at_limit(observed, now, limit);
             if due(observed, now, limit) {
                 (q.counts[l], q.newest[l]) = (0, None);
             }
@@ -501,6 +511,9 @@ impl Coverage {
                 self.count_if(at_limit(q.start, now, c.timeout_ms), "idle timeout at its limit", 0);
                 self.count_if(counts.iter().any(|n| *n > 0), "idle timeout with counts", 0);
                 self.count_if(now < q.start, "idle timeout, the clock wrapped", 0);
+                self.count_if(oldest, "idle timeout, a sample at its age limit counts", 0);
+                self.count_if(expired, "idle timeout, a sample expired by a ms does not count", 0);
+                self.count_if(sample.is_some_and(|x| !due(q.start, x.2, c.timeout_ms)), "idle timeout by a sample observed before it", 0);
             }
             _ => self.count_if(one_early(q.start, now, c.timeout_ms), "pending a ms before the idle timeout", 0),
         }

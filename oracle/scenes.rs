@@ -161,10 +161,13 @@ fn outage(s: &mut Session) {
                 s.send(Record::Poll(t + ack as u64 - 1));
                 t += ack as u64;
             }
-            if s.g.chance(3) {
-                bytes(s, &[1, 2, 3], t);
-            }
+            let torn = s.g.frame(50);
+            let begun = s.g.pick(&[0, 0, 3, 9]);
+            bytes(s, &torn[..begun], t);
             assert_ne!(s.send(Record::Poll(t)), Answer::TimedOut(None));
+            if s.g.chance(2) {
+                bytes(s, &torn[begun..], t);
+            }
             s.send(Record::Next(t));
             s.send(Record::Mark(q + 1, (l + 1) % 4, t));
             match s.g.n(6) {
@@ -307,11 +310,13 @@ fn expiry(s: &mut Session) {
     s.send(Record::Status(t + limit));
     deliver(s, 50, t, Some(t + limit - 1));
     deliver(s, 50, t, Some(t + limit));
-    // a new check, whose timeout shows the counts
-    s.send(Record::Idle(idle(30, 100, 0, 10, age, 1), t + limit));
-    either(s, 50, t + limit);
-    s.send(Record::Status(t + limit + 10));
-    after_verdict(s, t + limit + 10);
+    // a timeout shows which of them count
+    for end in [limit - 1, limit] {
+        checked(s, idle(30, 100, 0, end as u32, age, 2), t);
+        either(s, 50, t);
+        s.send(Record::Status(t + end));
+        after_verdict(s, t + end);
+    }
 }
 
 /// Pending a millisecond before the timeout; then the timeout, by each record that can tell it.
@@ -327,7 +332,7 @@ fn timeout(s: &mut Session) {
         match by {
             0 => s.send(Record::Status(end)),
             1 => deliver(s, 50, end, None),
-            _ => deliver(s, 50, end, Some(end)),
+            _ => deliver(s, 50, end - 1, Some(end)),
         };
         after_verdict(s, end);
     }
