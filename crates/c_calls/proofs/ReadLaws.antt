@@ -1,5 +1,5 @@
 -- Reading a frame into lent fields: its length first, then their room, then the frame itself.
-use mathlib.Core.Path.{_≡_, refl}
+use mathlib.Core.Path.{_≡_}
 use mathlib.Core.List.{List}
 use Prim.Native.Nat.{ℕ, _≤_, _<_}
 use borrow.Author.Tests.{eq-eqb, ne-eqb, le-leb, lt-leb}

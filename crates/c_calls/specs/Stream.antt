@@ -6,7 +6,8 @@ use lib.Dec.{leb}
 use lib.ListN.{length, set}
 use Rattle.blheli_telemetry.specs.Choice.{pick}
 use Rattle.blheli_telemetry.specs.BigEndian.{overwrite}
-use Rattle.blheli_telemetry.specs.Parser.{pushOf}
+use Rattle.blheli_telemetry.specs.Parser.{newParser, pushOf}
+use Rattle.blheli_telemetry.specs.Stream.{parsedBy}
 use Rattle.blheli_telemetry.specs.declared.parser.Parsed.{Parsed}
 use Rattle.blheli_telemetry.specs.declared.parser.Parsed.the-variants.{Sample, Nothing}
 use Rattle.blheli_telemetry.specs.declared.parser.ParserStats.{ParserStats}
@@ -43,3 +44,16 @@ counted s out = overwrite 0 (s .«valid_frames» ∷ s .«crc_failures» ∷ s .
 unfoldable pub fits : List ℕ → List ℕ → List ℕ → List ℕ → Bool
 fits bytes gave fields counts =
     pick (leb (length bytes) (length gave)) (pick (leb (length bytes) (length fields / 5)) (leb 3 (length counts)) false) false
+
+-- 0 or 9, and the lent buffers afterwards: all as found where one is too short
+abbrev pub streamNumber : List ℕ → List ℕ → List ℕ → List ℕ → ℕ
+streamNumber bytes gave fields counts = pick (fits bytes gave fields counts) 0 9
+
+abbrev pub marksAfter : List ℕ → List ℕ → List ℕ → List ℕ → List ℕ
+marksAfter bytes gave fields counts = pick (fits bytes gave fields counts) (marked 0 (parsedBy newParser bytes) gave) gave
+
+abbrev pub fieldsAfter : List ℕ → List ℕ → List ℕ → List ℕ → List ℕ
+fieldsAfter bytes gave fields counts = pick (fits bytes gave fields counts) (filled 0 (parsedBy newParser bytes) fields) fields
+
+abbrev pub countsAfter : List ℕ → List ℕ → List ℕ → List ℕ → List ℕ
+countsAfter bytes gave fields counts = pick (fits bytes gave fields counts) (counted (statsBy newParser bytes) counts) counts

@@ -2,10 +2,9 @@
 ghost use mathlib.Core.Path.{_≡_};
 ghost use Prim.Native.Nat.{_+_, _*_, _≤_, _<_};
 ghost use lib.ListN.{length, set};
-ghost use Rattle.blheli_telemetry.specs.Choice.{pick};
 ghost use Rattle.blheli_telemetry.specs.Parser.{newParser};
 ghost use Rattle.blheli_telemetry.specs.Stream.{parsedBy};
-ghost use Rattle.c_calls.specs.Stream.{markOf, filledAt, marked, filled, statsBy, fits, counted};
+ghost use Rattle.c_calls.specs.Stream.{markOf, filledAt, marked, filled, statsBy, counted, streamNumber, marksAfter, fieldsAfter, countsAfter};
 use crate::frame::put_fields;
 use blheli_telemetry::Parsed;
 use blheli_telemetry::ParserStats;
@@ -21,10 +20,10 @@ pub extern "C" fn esc_stream_parse(
     fields: &mut [u16],
     counts: &mut [u32],
 ) -> u8
-    ensures { λ r. ⌜ r ≡ pick (fits (now (bytes .entry)) (now (gave .entry)) (now (fields .entry)) (now (counts .entry))) 0 9 ⌝ }
-    ensures { λ _. ⌜ now (gave .exit) ≡ pick (fits (now (bytes .entry)) (now (gave .entry)) (now (fields .entry)) (now (counts .entry))) (marked 0 (parsedBy newParser (now (bytes .entry))) (now (gave .entry))) (now (gave .entry)) ⌝ }
-    ensures { λ _. ⌜ now (fields .exit) ≡ pick (fits (now (bytes .entry)) (now (gave .entry)) (now (fields .entry)) (now (counts .entry))) (filled 0 (parsedBy newParser (now (bytes .entry))) (now (fields .entry))) (now (fields .entry)) ⌝ }
-    ensures { λ _. ⌜ now (counts .exit) ≡ pick (fits (now (bytes .entry)) (now (gave .entry)) (now (fields .entry)) (now (counts .entry))) (counted (statsBy newParser (now (bytes .entry))) (now (counts .entry))) (now (counts .entry)) ⌝ }
+    ensures { λ r. ⌜ r ≡ streamNumber (now (bytes .entry)) (now (gave .entry)) (now (fields .entry)) (now (counts .entry)) ⌝ }
+    ensures { λ _. ⌜ now (gave .exit) ≡ marksAfter (now (bytes .entry)) (now (gave .entry)) (now (fields .entry)) (now (counts .entry)) ⌝ }
+    ensures { λ _. ⌜ now (fields .exit) ≡ fieldsAfter (now (bytes .entry)) (now (gave .entry)) (now (fields .entry)) (now (counts .entry)) ⌝ }
+    ensures { λ _. ⌜ now (counts .exit) ≡ countsAfter (now (bytes .entry)) (now (gave .entry)) (now (fields .entry)) (now (counts .entry)) ⌝ }
 {
     if gave.len() < bytes.len() {
         return 9;
