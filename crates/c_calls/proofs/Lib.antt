@@ -1,0 +1,4 @@
+pub mod StoreLaws
+pub mod ReadLaws
+pub mod Running
+pub mod FitsLaws
