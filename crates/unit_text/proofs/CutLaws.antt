@@ -2,14 +2,16 @@
 use mathlib.Core.Path.{_≡_, refl, ap, _∙_}
 use mathlib.Core.Bool.{Bool, true, false}
 use mathlib.Core.List.{List, [], _∷_, _++_}
-use Prim.Native.Nat.{ℕ, _+_, _≤_, _<_}
+use Prim.Native.Nat.{ℕ, _+_, _*_, _≤_, _<_}
 use native.Mathlib.Omega.{arith}
 use lib.Dec.{eqb}
 use lib.ListN.{length, take}
 use Rattle.blheli_telemetry.specs.Choice.{pick}
 use Rattle.unit_text.specs.Line.{lineEnd, readLine, lineRead, recordLength}
-use Rattle.unit_text.specs.Cut.{firstLine, HeldTo, CutFrom}
+use Rattle.unit_text.specs.Cut.{firstLine, HeldTo, WholeFrom, CutFrom}
 use Rattle.unit_text.specs.declared.line.LineRead.{LineRead}
+use Rattle.unit_text.specs.declared.line.LineRead.the-variants as read
+use Rattle.unit_text.specs.declared.cut.Whole.the-variants.{Record}
 use Rattle.unit_text.specs.declared.cut.Held.{Held}
 use Rattle.unit_text.specs.declared.cut.Cut.the-variants.{Open, Line}
 use Rattle.unit_text.proofs.CutLine.{cut-line}
@@ -53,3 +55,8 @@ module _ {begun chunk buffer : List ℕ} {h : Held} (k : HeldTo begun chunk h bu
     where
       shorter : (length (firstLine chunk) ≡ length chunk) → ⊥
       shorter q = n (k .passed ∙ q)
+
+-- a line that lies in the chunk whole
+pub cut-whole : (chunk bytes buffer : List ℕ) (n : ℕ) → length buffer ≡ 59 → WholeFrom chunk (Record n) bytes
+    → CutFrom [] chunk (Line (read.Record n) (2 * n + 1)) buffer bytes
+cut-whole chunk bytes buffer n room w = (w .0, omega (arith, w .1), w .2, w .3, room)

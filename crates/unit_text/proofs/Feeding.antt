@@ -16,10 +16,9 @@ use Rattle.unit_text.specs.Line.{lineEnd, lineRead, printedLine}
 use Rattle.unit_text.specs.Session.{answerOn, answerLine, unitAfter, lineText}
 use Rattle.unit_text.specs.Stream.{Streamed, after, printed, taken, feedOf, fedOutput, longestLine}
 use Rattle.unit_text.specs.Cut.{firstLine, CutFrom}
-use Rattle.unit_text.specs.Answering.{AnsweredAt}
+use Rattle.unit_text.specs.Answering.{Answers, PrintedAt}
 use Rattle.unit_text.specs.declared.line.LineRead.{LineRead}
 use Rattle.unit_text.specs.declared.cut.Cut.the-variants.{Open, Line}
-use Rattle.unit_text.specs.declared.answer.Answered.{Answered}
 use Rattle.unit_text.proofs.PrintLaws.{overwrite-none}
 use Rattle.unit_text.proofs.LinesLaws.{Unended}
 use Rattle.unit_text.proofs.FirstLine.{first-unended, first-split}
@@ -133,7 +132,8 @@ module _ {s : Streamed} {chunk out₀ : List ℕ} {unit : Unit} {line : List ℕ
 
     -- a line, answered
     module _ (r : LineRead) (next : ℕ) (line′ bytes′ : List ℕ) (c : CutFrom begun left (Line r next) line′ bytes′)
-        (a : Answered) (out′ : List ℕ) (e : AnsweredAt (answerOn unit (lineRead r bytes′)) written out a out′) where
+        (unit′ : Unit) (reply : List ℕ) (e : Answers unit (lineRead r bytes′) unit′ reply)
+        (written′ : ℕ) (out′ : List ℕ) (p : PrintedAt reply written out written′ out′) where
       abbrev more : List ℕ
       more = firstLine left
 
@@ -141,11 +141,11 @@ module _ {s : Streamed} {chunk out₀ : List ℕ} {unit : Unit} {line : List ℕ
       unfolding answerLine
       answers = ap (answerOn unit) (c .2)
 
-      said : printedLine (replyBytes (answerOn unit (lineRead r bytes′) .reply)) ≡ lineText unit (begun ++ more)
+      said : printedLine reply ≡ lineText unit (begun ++ more)
       unfolding lineText
-      said = ap (λ (x : Replied). printedLine (replyBytes (x .reply))) answers
+      said = ap printedLine (e .bytes) ∙ ap (λ (x : Replied). printedLine (replyBytes (x .reply))) answers
 
-      unit-after : a .unit ≡ unitAfter unit (begun ++ more)
+      unit-after : unit′ ≡ unitAfter unit (begun ++ more)
       unit-after = e .unit ∙ ap (λ (x : Replied). x .unit) answers
 
       -- how far the line goes
@@ -156,7 +156,7 @@ module _ {s : Streamed} {chunk out₀ : List ℕ} {unit : Unit} {line : List ℕ
           (ap (take next) (first-split left (c .0) ∙ sym (append-assoc more (lineEnd ∷ []) (drop (length more + 1) left)))
           ∙ take-at (more ++ lineEnd ∷ []) (drop (length more + 1) left) next (length-append more (lineEnd ∷ []) ∙ sym (c .1)))
 
-      stream-after : record { unit = a .unit; line = [] } ≡ after s (take (used + next) chunk)
+      stream-after : record { unit = unit′; line = [] } ≡ after s (take (used + next) chunk)
       stream-after =
           rw (further, after-append s (take used chunk) (more ++ lineEnd ∷ []), ← k .stream)
           (rw unit-after (sym (after-line unit begun more short (first-unended left))))
@@ -166,24 +166,24 @@ module _ {s : Streamed} {chunk out₀ : List ℕ} {unit : Unit} {line : List ℕ
           rw (further, printed-append s (take used chunk) (more ++ lineEnd ∷ []), ← k .stream)
           (ap (λ (l : List ℕ). printed s (take used chunk) ++ l) (printed-line unit begun more short (first-unended left)))
 
-      next-place : a .next ≡ written + length (lineText unit (begun ++ more))
-      next-place = e .next ∙ ap (λ (l : List ℕ). written + length l) said
+      next-place : written′ ≡ written + length (lineText unit (begun ++ more))
+      next-place = p .next ∙ ap (λ (l : List ℕ). written + length l) said
 
-      room-after : a .next ≤ length out₀
+      room-after : written′ ≤ length out₀
       room-after = omega (arith, next-place, line-length unit (begun ++ more))
 
       taken-after : taken (after s (take used chunk)) (length out₀ - written) left
-          ≡ next + taken (after s (take (used + next) chunk)) (length out₀ - a .next) (drop (used + next) chunk)
+          ≡ next + taken (after s (take (used + next) chunk)) (length out₀ - written′) (drop (used + next) chunk)
       taken-after =
           let rest : drop (length more + 1) left ≡ drop (used + next) chunk = drop-drop (length more + 1) used chunk ∙ ap (λ (n : ℕ). drop (used + n) chunk) (sym (c .1)) in
-          let room : length out₀ - written - length (lineText unit (begun ++ more)) ≡ length out₀ - a .next = omega (arith, next-place) in
+          let room : length out₀ - written - length (lineText unit (begun ++ more)) ≡ length out₀ - written′ = omega (arith, next-place) in
           rw (← k .stream, ← stream-after, unit-after)
           (ap (taken (record { unit = unit; line = begun }) (length out₀ - written)) (first-split left (c .0))
           ∙ taken-line unit begun more short (first-unended left) (length out₀ - written) (drop (length more + 1) left) roomy
           ∙ rw (rest, room) (omega (arith, c .1)))
 
       pub feeding-line : length line′ ≡ 59 → length bytes′ ≡ 29 → length out′ ≡ length out
-          → Feeding s chunk out₀ (a .unit) line′ 0 bytes′ out′ (used + next) (a .next)
+          → Feeding s chunk out₀ (unit′) line′ 0 bytes′ out′ (used + next) (written′)
       feeding-line b l o =
           record {
             within = goes-on next (c .0) (c .1);
@@ -196,7 +196,7 @@ module _ {s : Streamed} {chunk out₀ : List ℕ} {unit : Unit} {line : List ℕ
             fits = room-after;
             text =
                 rw printed-after
-                (e .text
+                (p .text
                 ∙ rw (said, k .text)
                 (overwrite-append 0 written (printed s (take used chunk)) (lineText unit (begun ++ more)) out₀ (omega (arith, k .count)) (omega (arith, next-place, room-after))));
             rest = omega (arith, k .rest, taken-after);

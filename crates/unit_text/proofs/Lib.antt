@@ -13,7 +13,9 @@ pub mod StreamLaws
 pub mod SessionLaws
 pub mod LineTurn
 pub mod Feeding
-pub mod ReplyLaws
+pub mod AnswersLaws
+pub mod WrittenLine
+pub mod WholeLine
 pub mod HandLaws
 pub mod FedLaws
 pub mod FinishLaws

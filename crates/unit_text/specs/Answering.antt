@@ -1,21 +1,29 @@
--- A reply put into buffers: its bytes in front of the answer's, and its line in the output.
-use Prim.Native.Nat.{ℕ, _+_, _≤_}
+-- A line's answer: the record that is taken, and what is printed.
+use Prim.Native.Nat.{ℕ, _+_}
 use mathlib.Core.Path.{_≡_}
+use mathlib.Core.Bool.{Bool}
 use mathlib.Core.List.{List}
-use lib.ListN.{length, take}
+use lib.ListN.{length}
 use Rattle.blheli_telemetry.specs.BigEndian.{overwrite}
-use Rattle.esc_unit.specs.Unit.{Replied}
+use Rattle.blheli_telemetry.specs.Reply.{Reply, accepted, refused}
+use Rattle.esc_unit.specs.Admission.{admittedOf}
 use Rattle.esc_unit.specs.Answer.{replyBytes}
+use Rattle.esc_unit.specs.declared.record.Record.{Record}
+use Rattle.esc_unit.specs.declared.unit.Unit.{Unit}
 use Rattle.unit_text.specs.Line.{printedLine}
-use Rattle.unit_text.specs.declared.answer.LineReply.{LineReply}
-use Rattle.unit_text.specs.declared.answer.Answered.{Answered}
+use Rattle.unit_text.specs.Session.{answerOn}
 
-pub record ReplyIn (s : Replied) (r : LineReply) (buffer : List ℕ) : Type 0 where
-  pub unit : r .unit ≡ s .unit
-  pub bytes : take (r .len) buffer ≡ replyBytes (s .reply)
-  pub short : r .len ≤ 43
+-- 1 to 3 by the line, 4 to 8 by the record and whether the unit was opened
+abbrev pub takenBy : Bool → Reply (List ℕ) → Reply Record
+takenBy opened (refused n) = refused n
+takenBy opened (accepted record-bytes) = admittedOf opened record-bytes
 
-pub record AnsweredAt (s : Replied) (at : ℕ) (out : List ℕ) (r : Answered) (out′ : List ℕ) : Type 0 where
-  pub unit : r .unit ≡ s .unit
-  pub next : r .next ≡ at + length (printedLine (replyBytes (s .reply)))
-  pub text : out′ ≡ overwrite at (printedLine (replyBytes (s .reply))) out
+-- the unit after a line, and the bytes of its reply
+pub record Answers (u : Unit) (line : Reply (List ℕ)) (after : Unit) (said : List ℕ) : Type 0 where
+  pub unit : after ≡ answerOn u line .unit
+  pub bytes : said ≡ replyBytes (answerOn u line .reply)
+
+-- bytes on a line of their own, from the place `at` on, and the place behind it
+pub record PrintedAt (said : List ℕ) (at : ℕ) (out : List ℕ) (behind : ℕ) (out′ : List ℕ) : Type 0 where
+  pub next : behind ≡ at + length (printedLine said)
+  pub text : out′ ≡ overwrite at (printedLine said) out

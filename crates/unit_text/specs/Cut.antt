@@ -1,12 +1,15 @@
 -- A line cut off the front of a chunk.
-use Prim.Native.Nat.{ℕ, _+_, _≤_, _<_}
+use Prim.Native.Nat.{ℕ, _+_, _*_, _≤_, _<_}
 use mathlib.Core.Path.{_≡_}
 use mathlib.Core.List.{List, [], _∷_, _++_}
 use lib.Dec.{eqb}
-use lib.ListN.{length, take}
+use lib.ListN.{length, getD, take}
 use Rattle.blheli_telemetry.specs.Choice.{pick}
+use Rattle.blheli_telemetry.specs.Reply.{accepted}
 use Rattle.unit_text.specs.Line.{lineEnd, readLine, lineRead, recordLength}
 use Rattle.unit_text.specs.declared.cut.Held.{Held}
+use Rattle.unit_text.specs.declared.cut.Whole.{Whole}
+use Rattle.unit_text.specs.declared.cut.Whole.the-variants.{Record, Other}
 use Rattle.unit_text.specs.declared.cut.Cut.{Cut}
 use Rattle.unit_text.specs.declared.cut.Cut.the-variants.{Open, Line}
 
@@ -25,6 +28,20 @@ pub record Holds (line : List ℕ) (n : ℕ) (buffer : List ℕ) : Type 0 where
 pub record HeldTo (begun chunk : List ℕ) (h : Held) (buffer : List ℕ) : Type 0 where
   pub passed : h .passed ≡ length (firstLine chunk)
   pub holds : Holds (begun ++ firstLine chunk) (h .held) buffer
+
+-- LF stands at a place
+abbrev pub EndedAt : List ℕ → ℕ → ℕ → Whole → Type 0
+EndedAt chunk place n Other = Unit {0}
+EndedAt chunk place n (Record m) = (m ≡ n) × (place < length chunk) × (getD chunk place 0 ≡ lineEnd)
+
+-- LF ends the first line within the chunk, and it stands for so many bytes
+abbrev pub WholeFrom : List ℕ → Whole → List ℕ → Type 0
+WholeFrom chunk Other bytes = Unit {0}
+WholeFrom chunk (Record n) bytes =
+    (length (firstLine chunk) < length chunk)
+    × (length (firstLine chunk) ≡ 2 * n)
+    × (accepted (take n bytes) ≡ readLine (firstLine chunk))
+    × (n ≤ 29)
 
 -- the line goes on behind the chunk, and is held; or LF ends it, and it is read as a whole
 abbrev pub CutFrom : List ℕ → List ℕ → Cut → List ℕ → List ℕ → Type 0

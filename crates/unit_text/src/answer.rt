@@ -1,72 +1,60 @@
-// The answer to a line that was read: the unit is called with its record, and the reply is printed.
+// The answer to a line that was read, printed on a line of its own.
 ghost use mathlib.Core.Path.{_≡_};
+ghost use mathlib.Core.List.{[], _∷_};
 ghost use Prim.Native.Nat.{_+_, _≤_};
 ghost use lib.ListN.{length};
+ghost use Rattle.esc_unit.specs.Admission.{admitted};
+ghost use Rattle.esc_unit.specs.Answer.{answerBytes};
 ghost use Rattle.unit_text.specs.Line.{lineRead, recordLength};
-ghost use Rattle.unit_text.specs.Session.{answerOn};
-ghost use Rattle.unit_text.specs.Answering.{ReplyIn, AnsweredAt};
+ghost use Rattle.unit_text.specs.Answering.{takenBy, PrintedAt};
 use crate::line::LineRead;
 use crate::line::print_line;
-use esc_unit::CallReply;
-use esc_unit::Unit;
+use esc_unit::Admitted;
+use esc_unit::Answer;
+use esc_unit::AnswerWritten;
+use esc_unit::admit;
+use esc_unit::write_answer;
 
 // As much as any answer takes.
 const LONGEST_ANSWER: usize = 43;
 
-// The unit after a line, and the place behind what was printed for it.
-pub(crate) struct Answered {
-    pub unit: Unit,
-    pub next: usize,
-}
-
-// The unit after a line, and how many bytes of the answer's buffer its reply takes.
-struct LineReply {
-    unit: Unit,
-    len: usize,
-}
-
-// Answers the line whose record stands in front of `bytes`, from the place `at` of `out` on.
-pub(crate) fn answer(
-    unit: Unit,
-    read: LineRead,
-    bytes: &[u8],
-    out: &mut [u8],
-    at: usize,
-) -> Answered
-    requires { ⌜ (recordLength read ≤ length (now bytes)) × (at + 87 ≤ length (now out)) ⌝ }
-    ensures { λ r. ⌜ AnsweredAt (answerOn unit (lineRead read (now (bytes .entry)))) at (now (out .entry)) r (now (out .exit)) ⌝ }
-{
-    let mut buffer = [0u8; LONGEST_ANSWER];
-    let reply = reply_to(unit, read, bytes, &mut buffer);
-    let len = reply.len;
-    let next = print_line(&buffer[..len], out, at);
-    let after = reply.unit;
-    Answered { unit: after, next }
-}
-
-fn reply_to(unit: Unit, read: LineRead, bytes: &[u8], buffer: &mut [u8]) -> LineReply
-    requires { ⌜ (recordLength read ≤ length (now bytes)) × (length (now buffer) ≡ 43) ⌝ }
-    ensures { λ r. ⌜ ReplyIn (answerOn unit (lineRead read (now (bytes .entry)))) r (now (buffer .exit)) ⌝ }
+// The record that a line stands for, in front of `bytes`, if a unit that was opened, or was not, takes it.
+pub(crate) fn take(opened: bool, read: LineRead, bytes: &[u8]) -> Admitted
+    requires { ⌜ recordLength read ≤ length (now bytes) ⌝ }
+    ensures { λ r. ⌜ admitted r ≡ takenBy opened (lineRead read (now (bytes .entry))) ⌝ }
 {
     match read {
-        LineRead::Refused(number) => {
-            buffer[0] = number;
-            LineReply { unit, len: 1 }
-        }
-        LineRead::Record(n) => {
-            let called = unit.call(&bytes[..n], buffer);
-            let after = called.unit;
-            let reply = called.reply;
-            match reply {
-                CallReply::Written(len) => LineReply { unit: after, len },
-                CallReply::Refused(number) => {
-                    buffer[0] = number;
-                    LineReply {
-                        unit: after,
-                        len: 1,
-                    }
-                }
-            }
-        }
+        LineRead::Refused(number) => Admitted::Refused(number),
+        LineRead::Record(n) => admit(opened, &bytes[..n]),
     }
+}
+
+pub(crate) fn print_answer(answer: Answer, out: &mut [u8], at: usize) -> usize
+    requires { ⌜ at + 87 ≤ length (now out) ⌝ }
+    ensures { λ r. ⌜ PrintedAt (answerBytes answer) at (now (out .entry)) r (now (out .exit)) ⌝ }
+{
+    let mut buffer = [0u8; LONGEST_ANSWER];
+    let written = write_answer(answer, &mut buffer);
+    let AnswerWritten::Written(n) = written else {
+        // no answer is longer than the buffer
+        return at;
+    };
+    print_line(&buffer[..n], out, at)
+}
+
+pub(crate) fn print_refusal(number: u8, out: &mut [u8], at: usize) -> usize
+    requires { ⌜ at + 87 ≤ length (now out) ⌝ }
+    ensures { λ r. ⌜ PrintedAt (number ∷ []) at (now (out .entry)) r (now (out .exit)) ⌝ }
+{
+    let one = [number];
+    print_line(&one, out, at)
+}
+
+// The answer to a 05 that brings nothing.
+pub(crate) fn print_nothing(out: &mut [u8], at: usize) -> usize
+    requires { ⌜ at + 87 ≤ length (now out) ⌝ }
+    ensures { λ r. ⌜ PrintedAt (0x00 ∷ 0x00 ∷ []) at (now (out .entry)) r (now (out .exit)) ⌝ }
+{
+    let nothing = [0u8; 2];
+    print_line(&nothing, out, at)
 }

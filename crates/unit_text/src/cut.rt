@@ -5,10 +5,13 @@ ghost use mathlib.Core.List.{[], _∷_, _++_};
 ghost use Prim.Native.Nat.{_≤_};
 ghost use lib.ListN.{length, take};
 ghost use Rattle.unit_text.specs.Digit.{Tabled};
-ghost use Rattle.unit_text.specs.Cut.{Holds, HeldTo, CutFrom};
+ghost use Rattle.unit_text.specs.Cut.{Holds, HeldTo, WholeFrom, EndedAt, CutFrom};
+use crate::digit::NO_DIGIT;
 use crate::line::LINE_END;
+use crate::line::LONGEST_RECORD;
 use crate::line::LineRead;
 use crate::line::read_line;
+use crate::line::value;
 
 pub(crate) const HELD: usize = 59;
 
@@ -17,6 +20,14 @@ pub(crate) enum Cut {
     Open(usize),
     // A line, read, and the place behind its end.
     Line(LineRead, usize),
+}
+
+// A line that lies in a chunk from the chunk's front to an LF.
+enum Whole {
+    // So many bytes.
+    Record(usize),
+    // It goes on behind the chunk, or it may be refused: it is read by way of the buffer.
+    Other,
 }
 
 struct Held {
@@ -35,6 +46,27 @@ pub(crate) fn next_line(
     requires { ⌜ Tabled (now digits) × (length (now bytes) ≡ 29) × (length (now buffer) ≡ 59) × (held ≤ 59) ⌝ }
     ensures { λ r. ⌜ CutFrom (take held (now (buffer .entry))) (now (chunk .entry)) r (now (buffer .exit)) (now (bytes .exit)) ⌝ }
 {
+    if held == 0 {
+        let whole = whole_line(digits, chunk, bytes);
+        if let Whole::Record(n) = whole {
+            return Cut::Line(LineRead::Record(n), 2 * n + 1);
+        }
+        return held_line(digits, chunk, buffer, held, bytes);
+    }
+    held_line(digits, chunk, buffer, held, bytes)
+}
+
+// Reads a line by way of its buffer.
+fn held_line(
+    digits: &[u8; 256],
+    chunk: &[u8],
+    buffer: &mut [u8],
+    held: usize,
+    bytes: &mut [u8],
+) -> Cut
+    requires { ⌜ Tabled (now digits) × (length (now bytes) ≡ 29) × (length (now buffer) ≡ 59) × (held ≤ 59) ⌝ }
+    ensures { λ r. ⌜ CutFrom (take held (now (buffer .entry))) (now (chunk .entry)) r (now (buffer .exit)) (now (bytes .exit)) ⌝ }
+{
     let h = hold(chunk, buffer, held);
     let passed = h.passed;
     let n = h.held;
@@ -42,6 +74,42 @@ pub(crate) fn next_line(
         return Cut::Open(n);
     }
     Cut::Line(read_line(digits, &buffer[..n], bytes), passed + 1)
+}
+
+// Reads a line from where it stands, as nearly every line can be.
+fn whole_line(digits: &[u8; 256], chunk: &[u8], bytes: &mut [u8]) -> Whole
+    requires { ⌜ Tabled (now digits) × (length (now bytes) ≡ 29) ⌝ }
+    ensures { λ r. ⌜ WholeFrom (now (chunk .entry)) r (now (bytes .exit)) ⌝ }
+{
+    let mut place: usize = 0;
+    let mut n: usize = 0;
+    while n < LONGEST_RECORD {
+        if chunk.len() - place < 2 {
+            return ended(chunk, place, n);
+        }
+        let high = value(digits, chunk[place]);
+        let low = value(digits, chunk[place + 1]);
+        if high / NO_DIGIT + low / NO_DIGIT != 0 {
+            return ended(chunk, place, n);
+        }
+        bytes[n] = high * 16 + low;
+        n += 1;
+        place += 2;
+    }
+    ended(chunk, place, n)
+}
+
+// Whether LF stands at the place behind the characters of `n` bytes.
+fn ended(chunk: &[u8], place: usize, n: usize) -> Whole
+    ensures { λ r. ⌜ EndedAt (now (chunk .entry)) place n r ⌝ }
+{
+    if chunk.len() <= place {
+        return Whole::Other;
+    }
+    if chunk[place] != LINE_END {
+        return Whole::Other;
+    }
+    Whole::Record(n)
 }
 
 // Holds the characters before LF.

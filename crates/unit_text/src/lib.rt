@@ -4,6 +4,7 @@ mod answer;
 mod cut;
 mod digit;
 mod hand;
+mod held_byte;
 mod line;
 mod stream;
 mod whole_session;

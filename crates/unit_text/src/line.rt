@@ -55,7 +55,7 @@ pub(crate) fn read_line(digits: &[u8; 256], line: &[u8], bytes: &mut [u8]) -> Li
     LineRead::Record(n)
 }
 
-fn value(digits: &[u8; 256], character: u8) -> u8
+pub(crate) fn value(digits: &[u8; 256], character: u8) -> u8
     requires { ⌜ Tabled (now digits) ⌝ }
     ensures { λ r. ⌜ r ≡ digitOf character ⌝ }
 {

@@ -7,16 +7,24 @@ ghost use Rattle.unit_text.specs.Session.{handedReply, handedOutput};
 ghost use Rattle.unit_text.specs.Stream.{atStart, feedOf, fedOutput, printedAtEnd};
 ghost use Rattle.unit_text.specs.Streams.{streamed, fed};
 ghost use Rattle.unit_text.specs.Handed.{handed};
-use crate::answer::answer;
+use crate::answer::print_answer;
+use crate::answer::print_nothing;
+use crate::answer::print_refusal;
+use crate::answer::take;
 use crate::cut::Cut;
 use crate::cut::HELD;
 use crate::cut::next_line;
 use crate::digit::digits;
 use crate::hand::Handed;
 use crate::hand::hand;
+use crate::held_byte::HeldByte;
+use crate::held_byte::held_byte;
 use crate::line::LINE_END;
 use crate::line::LONGEST_RECORD;
+use esc_unit::Admitted;
+use esc_unit::Left;
 use esc_unit::Unit;
+use esc_unit::manage;
 
 // As much as any printed line takes.
 pub const LONGEST_LINE: usize = 87;
@@ -55,13 +63,21 @@ impl Stream {
     {
         let digits = digits();
         let mut bytes = [0u8; LONGEST_RECORD];
-        let mut unit = self.unit;
+        let first = self.unit;
+        let mut opened = first.opened;
+        let mut manager = first.manager;
+        let mut books = first.books;
         let mut line = self.line;
         let mut held = at_most_held(self.held);
         let mut used: usize = 0;
         let mut written: usize = 0;
         while used < chunk.len() {
             if out.len() - written < LONGEST_LINE {
+                let unit = Unit {
+                    opened,
+                    manager,
+                    books,
+                };
                 let stream = Stream { unit, line, held };
                 return Fed {
                     stream,
@@ -72,6 +88,11 @@ impl Stream {
             let cut = next_line(&digits, &chunk[used..], &mut line, held, &mut bytes);
             match cut {
                 Cut::Open(n) => {
+                    let unit = Unit {
+                        opened,
+                        manager,
+                        books,
+                    };
                     let stream = Stream {
                         unit,
                         line,
@@ -84,14 +105,55 @@ impl Stream {
                     };
                 }
                 Cut::Line(read, next) => {
-                    let answered = answer(unit, read, &bytes, out, written);
-                    unit = answered.unit;
-                    written = answered.next;
                     held = 0;
                     used += next;
+                    let taken = take(opened, read, &bytes);
+                    match taken {
+                        Admitted::Refused(number) => {
+                            written = print_refusal(number, out, written);
+                        }
+                        Admitted::Record(record) => {
+                            opened = true;
+                            let parser = manager.parser;
+                            let byte = held_byte(parser, record);
+                            match byte {
+                                HeldByte::Byte(byte, at_ms) => {
+                                    let collected = parser.collected(byte);
+                                    manager.parser = collected;
+                                    let fault = manager.fault;
+                                    let heard = fault.heard(at_ms);
+                                    manager.fault = heard;
+                                    written = print_nothing(out, written);
+                                }
+                                HeldByte::Other => {
+                                    let done = manage(manager, record);
+                                    let after = done.manager;
+                                    manager = after;
+                                    let left = done.left;
+                                    match left {
+                                        Left::Answer(answer) => {
+                                            written = print_answer(answer, out, written);
+                                        }
+                                        Left::Entry(entry) => {
+                                            let entered = books.entered(entry);
+                                            let kept = entered.books;
+                                            books = kept;
+                                            let answer = entered.answer;
+                                            written = print_answer(answer, out, written);
+                                        }
+                                    }
+                                }
+                            }
+                        }
+                    }
                 }
             }
         }
+        let unit = Unit {
+            opened,
+            manager,
+            books,
+        };
         let stream = Stream { unit, line, held };
         Fed {
             stream,

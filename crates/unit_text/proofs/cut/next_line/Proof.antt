@@ -1,36 +1,39 @@
--- The line is held up to its end, and then read from its buffer.
-use borrow.Author.Needs.{needs}
+-- A line that lies in the chunk whole is read from there, any other by way of the buffer.
 use native.Mathlib.Omega.{arith}
-use mathlib.Core.Path.{sym}
-use lib.Seq.{length-take-le}
-use Rattle.unit_text.proofs.CutLaws.{first-within, cut-open, cut-ended}
+use denote.Ref.{now}
+use Rattle.unit_text.specs.Cut.{WholeFrom}
+use Rattle.unit_text.specs.declared.cut.Whole.the-variants.{Record}
+use Rattle.unit_text.proofs.CutLaws.{cut-whole}
+use borrow.Author.Needs.{needs}
 use Rattle.unit_text.proofs.cut.next_line.Statement.{statement}
 use Rattle.unit_text.proofs.cut.next_line.Tie as tie
 
-hold-requires : tie.Need-hold-requires
-hold-requires c κs = search needs
+whole-line-requires : tie.Need-whole-line-requires
+whole-line-requires c κs = search needs
+
+enum-known-whole : tie.Need-enum-known-whole
+enum-known-whole c = search needs
+
+whole : (c : tie.After-known-told) → WholeFrom (now (c .before .before .before .before .before .before .before .before .before .before .before .args .chunk)) (Record (c .before .whole .given .0 .0)) (c .before .before .before .before .before .whole-line .last .1 .1 .0)
+whole c = rw (c .before .whole .given .1) at (c .before .before .before .before .before .whole-line .ensures)
+
+mul-t12 : tie.Need-mul-t12
+mul-t12 c = omega (arith, whole c .3)
+
+add-t13 : tie.Need-add-t13
+add-t13 c = omega (arith, whole c .3)
 
 same-length : tie.Need-same-length
 same-length c = search needs
 
 returns : tie.Need-returns
-returns c = let h = c .before .before .before .hold in cut-open (h .ensures) (c .before .before .before .before .before .before .before .before .args .bytes .now) (c .if1 .taken)
+returns c = rw (c .before .before .before .before .before .before .before .if1 .taken) (cut-whole _ _ (now (c .before .before .before .before .before .before .before .before .before .before .before .args .buffer)) _ (c .before .before .before .before .before .before .before .before .before .before .before .pre .2) (whole c))
 
-slice-reshare-prefix-read-line : tie.Need-slice-reshare-prefix-read-line
-slice-reshare-prefix-read-line c = search needs
+enum-told : tie.Need-enum-told
+enum-told c = search needs
 
-slice-aggregate-read-line : tie.Need-slice-aggregate-read-line
-slice-aggregate-read-line c =
-    let h = c .before .before .before .before .hold in
-    sym (length-take-le (h .result .held) (h .last .1 .0) (omega (arith, h .ensures .holds .room, h .ensures .holds .within)))
-
-read-line-requires : tie.Need-read-line-requires
-read-line-requires c κs = search needs
-
-add-t11 : tie.Need-add-t11
-add-t11 c =
-    let h = c .before .before .before .before .before .before .before .before .hold in
-    omega (arith, h .ensures .passed, first-within (c .before .before .before .before .before .before .before .before .before .before .before .before .before .args .chunk .now), c .before .before .before .before .before .before .before .before .before .before .before .before .before .good)
+held-line-requires : tie.Need-held-line-requires
+held-line-requires c κs = search needs
 
 same-length-2 : tie.Need-same-length-2
 same-length-2 c = search needs
@@ -39,22 +42,36 @@ same-length-3 : tie.Need-same-length-3
 same-length-3 c = search needs
 
 returns-2 : tie.Need-returns-2
-returns-2 c =
-    let h = c .before .before .before .before .before .before .before .before .hold in
-    let r = c .before .before .read-line in
-    cut-ended (h .ensures) _ (r .result) (c .before .before .before .before .before .if1 .left) (r .ensures .0) (r .ensures .1)
+returns-2 c = search needs
+
+held-line-requires-2 : tie.Need-held-line-requires-2
+held-line-requires-2 c κs = search needs
+
+same-length-4 : tie.Need-same-length-4
+same-length-4 c = search needs
+
+same-length-5 : tie.Need-same-length-5
+same-length-5 c = search needs
+
+returns-3 : tie.Need-returns-3
+returns-3 c = search needs
 
 pub next-line-spec : {M : Type 1} → statement M
 next-line-spec =
     tie.close
     (tie.spec
-    hold-requires
+    whole-line-requires
+    enum-known-whole
+    mul-t12
+    add-t13
     same-length
     returns
-    slice-reshare-prefix-read-line
-    slice-aggregate-read-line
-    read-line-requires
-    add-t11
+    enum-told
+    held-line-requires
     same-length-2
     same-length-3
-    returns-2)
+    returns-2
+    held-line-requires-2
+    same-length-4
+    same-length-5
+    returns-3)

@@ -1,22 +1,47 @@
--- Every turn cuts one line off the chunk and answers it.
+-- Every turn cuts one line off the chunk and answers it, in place where a byte is only held.
 use borrow.Author.Needs.{needs}
 use native.Mathlib.Omega.{arith}
-use mathlib.Core.Path.{_≡_, _∙_}
-use Prim.Native.Nat.{_-_}
-use lib.ListN.{length, take}
+use mathlib.Core.Path.{_≡_, sym, ap, _∙_}
+use Prim.Native.Nat.{ℕ, _+_, _-_, _≤_}
+use mathlib.Core.List.{List}
+use denote.Ref.{now}
+use lib.ListN.{length, take, drop}
+use Rattle.blheli_telemetry.specs.Reply.{Reply, accepted}
+use Rattle.esc_unit.specs.Admission.{admitted}
+use Rattle.esc_unit.specs.declared.unit.Unit.{Unit}
+use Rattle.unit_text.specs.Line.{lineRead}
+use Rattle.unit_text.specs.Cut.{CutFrom}
+use Rattle.unit_text.specs.declared.cut.Cut.the-variants.{Line}
+use Rattle.unit_text.proofs.AnswersLaws.{answers-refused, answers-held, answers-answered, answers-entered}
 use Rattle.unit_text.proofs.Feeding.{Feeding, feeding-none, held-line, part-left, fed-stop, fed-end, fed-open, feeding-line, goes-on}
 use Rattle.unit_text.proofs.stream.Stream.feed.Statement.{statement}
 use Rattle.unit_text.proofs.stream.Stream.feed.Tie as tie
 
 abbrev Inv-loop : tie.InvT-loop
-Inv-loop chunk out₀ digits bytes₀ unit₀ line₀ held₀ used₀ written₀ out bytes unit line held used written = Feeding (record { unit = unit₀; line = take held₀ line₀ }) chunk out₀ unit line held bytes out used written
+Inv-loop chunk out₀ digits bytes₀ opened₀ manager₀ books₀ line₀ held₀ used₀ written₀ out bytes opened manager books line held used written = Feeding (record { unit = record { opened = opened₀; manager = manager₀; books = books₀ }; line = take held₀ line₀ }) chunk out₀ (record { opened = opened; manager = manager; books = books }) line held bytes out used written
 
 abbrev μ-loop : tie.MeasureT-loop
-μ-loop chunk out₀ digits bytes₀ unit₀ line₀ held₀ used₀ written₀ out bytes unit line held used written = length chunk - used
+μ-loop chunk out₀ digits bytes₀ opened₀ manager₀ books₀ line₀ held₀ used₀ written₀ out bytes opened manager books line held used written = length chunk - used
 
 -- no more than the buffer is held, whatever the stream says
-held : (c : tie.After-at-most-held Inv-loop μ-loop) → take (c .before .before .before .before .before .before .args .self .held) (c .before .before .before .before .before .before .args .self .line) ≡ take (c .at-most-held .result) (c .before .before .before .before .before .before .args .self .line)
-held c = held-line _ (c .before .before .before .before .before .before .args .self .held) _ (search needs) (c .at-most-held .ensures)
+held : (c : tie.After-at-most-held Inv-loop μ-loop) → take (c .before .before .before .before .before .before .before .before .args .self .held) (c .before .before .before .before .before .before .before .before .args .self .line) ≡ take (c .at-most-held .result) (c .before .before .before .before .before .before .before .before .args .self .line)
+held c = held-line _ (c .before .before .before .before .before .before .before .before .args .self .held) _ (search needs) (c .at-most-held .ensures)
+
+-- the line that was cut off
+module _ (c : tie.After-known-told2 Inv-loop μ-loop) where
+  cut : CutFrom (take (c .before .before .before .before .before .before .before .before .before .before .before .before .loop .held) (c .before .before .before .before .before .before .before .before .before .before .before .before .loop .line)) (drop (c .before .before .before .before .before .before .before .before .before .before .before .before .loop .used) (now (c .before .before .before .before .before .before .before .before .before .before .before .before .before .before .before .before .before .before .before .before .before .args .chunk)))
+      (Line (c .before .cut2 .given .0 .0) (c .before .cut2 .given .0 .1 .0)) (c .before .before .before .before .before .next-line .last .1 .1 .0) (c .before .before .before .before .before .next-line .last .1 .1 .1 .1 .0)
+  cut = rw (c .before .cut2 .given .1, part-left _ (c .before .before .before .before .before .before .before .before .before .before .before .before .loop .used)) at (c .before .before .before .before .before .next-line .ensures)
+
+  -- the unit before it, and what was read
+  abbrev was : Unit
+  was = record { opened = c .before .before .before .before .before .before .before .before .before .before .before .before .loop .opened; manager = c .before .before .before .before .before .before .before .before .before .before .before .before .loop .manager; books = c .before .before .before .before .before .before .before .before .before .before .before .before .loop .books }
+
+  abbrev heard-line : Reply (List ℕ)
+  heard-line = lineRead (c .before .cut2 .given .0 .0) (c .before .before .before .before .before .next-line .last .1 .1 .1 .1 .0)
+
+  goes : c .before .before .before .before .before .before .before .before .before .before .before .before .loop .used + c .before .cut2 .given .0 .1 .0 ≤ length (now (c .before .before .before .before .before .before .before .before .before .before .before .before .before .before .before .before .before .before .before .before .before .args .chunk))
+  goes = goes-on (c .before .before .before .before .before .before .before .before .before .before .before .before .loop .inv) _ (cut .0) (cut .1)
 
 digits-requires : tie.Need-digits-requires Inv-loop μ-loop
 digits-requires c κs = search needs
@@ -54,7 +79,7 @@ slice-aggregate-next-line-2 : tie.Need-slice-aggregate-next-line-2 Inv-loop μ-l
 slice-aggregate-next-line-2 c = search needs
 
 next-line-requires : tie.Need-next-line-requires Inv-loop μ-loop
-next-line-requires c κs = (c .before .before .before .before .before .before .before .before .before .before .digits .ensures, c .before .before .before .before .before .before .loop .inv .room, c .before .before .before .before .before .before .loop .inv .buffer, c .before .before .before .before .before .before .loop .inv .holds)
+next-line-requires c κs = (c .before .before .before .before .before .before .before .before .before .before .before .before .digits .ensures, c .before .before .before .before .before .before .loop .inv .room, c .before .before .before .before .before .before .loop .inv .buffer, c .before .before .before .before .before .before .loop .inv .holds)
 
 enum-known-cut : tie.Need-enum-known-cut Inv-loop μ-loop
 enum-known-cut c = search needs
@@ -66,43 +91,116 @@ returns-2 : tie.Need-returns-2 Inv-loop μ-loop
 returns-2 c =
     let l = c .before .before .before .before .before .before .before .before .before .before .before .before .loop in
     let k = c .before .before .before .before .before .next-line in
-    let cut = rw (c .before .cut .given .1, part-left _ (l .used)) at (k .ensures) in
-    rw (held (c .before .before .before .before .before .before .before .before .before .before .before .before .before)) (fed-open (l .inv) (omega arith) _ _ (k .last .1 .1 .1 .1 .0) cut)
+    let begun = rw (c .before .cut .given .1, part-left _ (l .used)) at (k .ensures) in
+    rw (held (c .before .before .before .before .before .before .before .before .before .before .before .before .before)) (fed-open (l .inv) (omega arith) _ _ (k .last .1 .1 .1 .1 .0) begun)
 
 enum-known-cut-2 : tie.Need-enum-known-cut-2 Inv-loop μ-loop
 enum-known-cut-2 c = search needs
 
-slice-aggregate-answer : tie.Need-slice-aggregate-answer Inv-loop μ-loop
-slice-aggregate-answer c = search needs
-
-answer-requires : tie.Need-answer-requires Inv-loop μ-loop
-answer-requires c κs =
-    let l = c .before .before .before .before .before .before .before .before .before .before .before .before .before .before .loop in
-    let k = c .before .before .before .before .before .before .before .next-line in
-    let cut = rw (c .before .before .before .cut2 .given .1, part-left _ (l .used)) at (k .ensures) in
-    (omega (arith, cut .3, k .kept .1 .1 .1 .1 .0, l .inv .room), omega (arith, l .inv .long))
-
 add-used : tie.Need-add-used Inv-loop μ-loop
-add-used c =
-    let l = c .before .before .before .before .before .before .before .before .before .before .before .before .before .before .before .before .before .before .loop in
-    let k = c .before .before .before .before .before .before .before .before .before .before .before .next-line in
-    let cut = rw (c .before .before .before .before .before .before .before .cut2 .given .1, part-left _ (l .used)) at (k .ensures) in
-    omega (arith, c .before .before .before .before .before .before .before .before .before .before .before .before .before .before .before .before .before .before .before .before .before .before .before .before .before .good, goes-on (l .inv) _ (cut .0) (cut .1))
+add-used c = omega (arith, c .before .before .before .before .before .before .before .before .before .before .before .before .before .before .before .before .before .before .before .before .before .good, goes c)
+
+slice-aggregate-take : tie.Need-slice-aggregate-take Inv-loop μ-loop
+slice-aggregate-take c = search needs
+
+take-requires : tie.Need-take-requires Inv-loop μ-loop
+take-requires c κs = omega (arith, cut (c .before) .3, c .before .before .before .before .before .before .next-line .kept .1 .1 .1 .1 .0, c .before .before .before .before .before .before .before .before .before .before .before .before .before .loop .inv .room)
+
+enum-known-taken : tie.Need-enum-known-taken Inv-loop μ-loop
+enum-known-taken c = search needs
+
+print-refusal-requires : tie.Need-print-refusal-requires Inv-loop μ-loop
+print-refusal-requires c κs = omega (arith, c .before .before .before .before .before .before .before .before .before .before .before .before .before .before .before .before .before .before .loop .inv .long, c .before .before .before .before .before .before .before .before .before .before .before .before .before .before .before .before .if1 .left)
 
 loop-less : tie.Need-loop-less Inv-loop μ-loop
-loop-less c =
-    let l = c .before .before .before .before .before .before .before .before .before .before .before .before .before .before .before .before .before .before .loop in
-    let k = c .before .before .before .before .before .before .before .before .before .before .before .next-line in
-    let cut = rw (c .before .before .before .before .before .before .before .cut2 .given .1, part-left _ (l .used)) at (k .ensures) in
-    omega (arith, cut .1, goes-on (l .inv) _ (cut .0) (cut .1))
+loop-less c = omega (arith, cut (c .before .before .before .before .before .before .before .before .before) .1, goes (c .before .before .before .before .before .before .before .before .before))
 
 loop-again : tie.Need-loop-again Inv-loop μ-loop
 loop-again c =
-    let l = c .before .before .before .before .before .before .before .before .before .before .before .before .before .before .before .before .before .before .loop in
-    let k = c .before .before .before .before .before .before .before .before .before .before .before .next-line in
-    let a = c .before .before .before .answer in
-    let cut = rw (c .before .before .before .before .before .before .before .cut2 .given .1, part-left _ (l .used)) at (k .ensures) in
-    feeding-line (l .inv) (omega (arith, l .inv .long, c .before .before .before .before .before .before .before .before .before .before .before .before .before .before .before .before .if1 .left)) (c .before .before .before .before .before .before .before .cut2 .given .0 .0) _ (k .last .1 .1 .0) (k .last .1 .1 .1 .1 .0) cut _ _ (a .ensures) (cut .4) (k .kept .1 .1 .1 .1 .0 ∙ l .inv .room) (a .kept .1 .1 .1 .0)
+    let t = c .before .before .before .before .before .before .before .before .before in
+    let l = t .before .before .before .before .before .before .before .before .before .before .before .before .loop in
+    let k = t .before .before .before .before .before .next-line in
+    let said = answers-refused (was t) (heard-line t) _ (sym (c .before .before .before .before .before .before .before .take .ensures) ∙ ap admitted (c .before .before .before .before .before .taken .given .1)) in
+    (feeding-line (l .inv) (omega (arith, l .inv .long, t .before .before .before .before .before .before .before .before .before .before .if1 .left)) (t .before .cut2 .given .0 .0) (t .before .cut2 .given .0 .1 .0) (k .last .1 .1 .0) (k .last .1 .1 .1 .1 .0) (cut t) _ _ said _ _ (c .before .before .print-refusal .ensures) (cut t .4) (k .kept .1 .1 .1 .1 .0 ∙ l .inv .room) (c .before .before .print-refusal .kept .1 .0))
+
+enum-known-taken-2 : tie.Need-enum-known-taken-2 Inv-loop μ-loop
+enum-known-taken-2 c = search needs
+
+held-byte-requires : tie.Need-held-byte-requires Inv-loop μ-loop
+held-byte-requires c κs = search needs
+
+enum-known-byte : tie.Need-enum-known-byte Inv-loop μ-loop
+enum-known-byte c = search needs
+
+collected-requires : tie.Need-collected-requires Inv-loop μ-loop
+collected-requires c κs = search needs
+
+heard-requires : tie.Need-heard-requires Inv-loop μ-loop
+heard-requires c κs = search needs
+
+print-nothing-requires : tie.Need-print-nothing-requires Inv-loop μ-loop
+print-nothing-requires c κs = omega (arith, c .before .before .before .before .before .before .before .before .before .before .before .before .before .before .before .before .before .before .before .before .before .before .before .before .before .before .loop .inv .long, c .before .before .before .before .before .before .before .before .before .before .before .before .before .before .before .before .before .before .before .before .before .before .before .before .if1 .left)
+
+loop-less-2 : tie.Need-loop-less-2 Inv-loop μ-loop
+loop-less-2 c = omega (arith, cut (c .before .before .before .before .before .before .before .before .before .before .before .before .before .before .before .before .before) .1, goes (c .before .before .before .before .before .before .before .before .before .before .before .before .before .before .before .before .before))
+
+loop-again-2 : tie.Need-loop-again-2 Inv-loop μ-loop
+loop-again-2 c =
+    let t = c .before .before .before .before .before .before .before .before .before .before .before .before .before .before .before .before .before in
+    let l = t .before .before .before .before .before .before .before .before .before .before .before .before .loop in
+    let k = t .before .before .before .before .before .next-line in
+    let h = rw (c .before .before .before .before .before .before .before .before .byte .given .1) at (c .before .before .before .before .before .before .before .before .before .before .held-byte .ensures) in
+    let said = answers-held (was t) (heard-line t) _ _ (sym (c .before .before .before .before .before .before .before .before .before .before .before .before .before .before .before .take .ensures) ∙ ap admitted (c .before .before .before .before .before .before .before .before .before .before .before .before .before .taken2 .given .1) ∙ ap accepted (h .0)) (h .1) in
+    rw (c .before .before .before .before .before .before .collected .ensures, h .1, c .before .before .before .before .heard .ensures)
+    (feeding-line (l .inv) (omega (arith, l .inv .long, t .before .before .before .before .before .before .before .before .before .before .if1 .left)) (t .before .cut2 .given .0 .0) (t .before .cut2 .given .0 .1 .0) (k .last .1 .1 .0) (k .last .1 .1 .1 .1 .0) (cut t) _ _ said _ _ (c .before .before .print-nothing .ensures) (cut t .4) (k .kept .1 .1 .1 .1 .0 ∙ l .inv .room) (c .before .before .print-nothing .kept .0))
+
+enum-told : tie.Need-enum-told Inv-loop μ-loop
+enum-told c = search needs
+
+manage-requires : tie.Need-manage-requires Inv-loop μ-loop
+manage-requires c κs = search needs
+
+enum-known-left : tie.Need-enum-known-left Inv-loop μ-loop
+enum-known-left c = search needs
+
+print-answer-requires : tie.Need-print-answer-requires Inv-loop μ-loop
+print-answer-requires c κs = omega (arith, c .before .before .before .before .before .before .before .before .before .before .before .before .before .before .before .before .before .before .before .before .before .before .before .before .before .before .before .loop .inv .long, c .before .before .before .before .before .before .before .before .before .before .before .before .before .before .before .before .before .before .before .before .before .before .before .before .before .if1 .left)
+
+loop-less-3 : tie.Need-loop-less-3 Inv-loop μ-loop
+loop-less-3 c = omega (arith, cut (c .before .before .before .before .before .before .before .before .before .before .before .before .before .before .before .before .before .before) .1, goes (c .before .before .before .before .before .before .before .before .before .before .before .before .before .before .before .before .before .before))
+
+loop-again-3 : tie.Need-loop-again-3 Inv-loop μ-loop
+loop-again-3 c =
+    let t = c .before .before .before .before .before .before .before .before .before .before .before .before .before .before .before .before .before .before in
+    let l = t .before .before .before .before .before .before .before .before .before .before .before .before .loop in
+    let k = t .before .before .before .before .before .next-line in
+    let m = c .before .before .before .before .before .before .before .before .manage in
+    let said = answers-answered (was t) (heard-line t) _ (sym (c .before .before .before .before .before .before .before .before .before .before .before .before .before .before .before .before .take .ensures) ∙ ap admitted (c .before .before .before .before .before .before .before .before .before .before .before .before .before .before .taken2 .given .1)) _ (rw (m .ensures) at (c .before .before .before .before .before .left .given .1)) in
+    rw (m .ensures)
+    (feeding-line (l .inv) (omega (arith, l .inv .long, t .before .before .before .before .before .before .before .before .before .before .if1 .left)) (t .before .cut2 .given .0 .0) (t .before .cut2 .given .0 .1 .0) (k .last .1 .1 .0) (k .last .1 .1 .1 .1 .0) (cut t) _ _ said _ _ (c .before .before .print-answer .ensures) (cut t .4) (k .kept .1 .1 .1 .1 .0 ∙ l .inv .room) (c .before .before .print-answer .kept .1 .0))
+
+enum-known-left-2 : tie.Need-enum-known-left-2 Inv-loop μ-loop
+enum-known-left-2 c = search needs
+
+entered-requires : tie.Need-entered-requires Inv-loop μ-loop
+entered-requires c κs = search needs
+
+print-answer-requires-2 : tie.Need-print-answer-requires-2 Inv-loop μ-loop
+print-answer-requires-2 c κs = omega (arith, c .before .before .before .before .before .before .before .before .before .before .before .before .before .before .before .before .before .before .before .before .before .before .before .before .before .before .before .before .before .loop .inv .long, c .before .before .before .before .before .before .before .before .before .before .before .before .before .before .before .before .before .before .before .before .before .before .before .before .before .before .before .if1 .left)
+
+loop-less-4 : tie.Need-loop-less-4 Inv-loop μ-loop
+loop-less-4 c = omega (arith, cut (c .before .before .before .before .before .before .before .before .before .before .before .before .before .before .before .before .before .before .before .before) .1, goes (c .before .before .before .before .before .before .before .before .before .before .before .before .before .before .before .before .before .before .before .before))
+
+loop-again-4 : tie.Need-loop-again-4 Inv-loop μ-loop
+loop-again-4 c =
+    let t = c .before .before .before .before .before .before .before .before .before .before .before .before .before .before .before .before .before .before .before .before in
+    let l = t .before .before .before .before .before .before .before .before .before .before .before .before .loop in
+    let k = t .before .before .before .before .before .next-line in
+    let m = c .before .before .before .before .before .before .before .before .before .before .manage in
+    let n = c .before .before .before .before .before .entered in
+    let said = answers-entered (was t) (heard-line t) _ (sym (c .before .before .before .before .before .before .before .before .before .before .before .before .before .before .before .before .before .before .take .ensures) ∙ ap admitted (c .before .before .before .before .before .before .before .before .before .before .before .before .before .before .before .before .taken2 .given .1)) _ (rw (m .ensures) at (c .before .before .before .before .before .before .before .left2 .given .1)) in
+    rw (n .ensures, m .ensures)
+    (feeding-line (l .inv) (omega (arith, l .inv .long, t .before .before .before .before .before .before .before .before .before .before .if1 .left)) (t .before .cut2 .given .0 .0) (t .before .cut2 .given .0 .1 .0) (k .last .1 .1 .0) (k .last .1 .1 .1 .1 .0) (cut t) _ _ said _ _ (rw (n .ensures) at (c .before .before .print-answer2 .ensures)) (cut t .4) (k .kept .1 .1 .1 .1 .0 ∙ l .inv .room) (c .before .before .print-answer2 .kept .1 .0))
 
 same-length-3 : tie.Need-same-length-3 Inv-loop μ-loop
 same-length-3 c = search needs
@@ -134,10 +232,31 @@ feed-spec =
     same-length-2
     returns-2
     enum-known-cut-2
-    slice-aggregate-answer
-    answer-requires
     add-used
+    slice-aggregate-take
+    take-requires
+    enum-known-taken
+    print-refusal-requires
     loop-less
     loop-again
+    enum-known-taken-2
+    held-byte-requires
+    enum-known-byte
+    collected-requires
+    heard-requires
+    print-nothing-requires
+    loop-less-2
+    loop-again-2
+    enum-told
+    manage-requires
+    enum-known-left
+    print-answer-requires
+    loop-less-3
+    loop-again-3
+    enum-known-left-2
+    entered-requires
+    print-answer-requires-2
+    loop-less-4
+    loop-again-4
     same-length-3
     returns-3)
