@@ -7,18 +7,18 @@ use native.Mathlib.Nat.{add-zero}
 use lib.ListN.{length, take, drop, length-append, length-drop, take-append-drop, drop-of-length-le}
 use lib.Seq.{take-all, take-add, take-at, drop-drop, length-take-le}
 use Rattle.blheli_telemetry.specs.BigEndian.{overwrite}
+use Rattle.blheli_telemetry.specs.Reply.{Reply}
 use Rattle.blheli_telemetry.proofs.ByCases.{below-or-not}
 use Rattle.blheli_telemetry.proofs.BigEndianLaws.{overwrite-append}
 use Rattle.esc_unit.specs.Unit.{Replied}
 use Rattle.esc_unit.specs.Answer.{replyBytes}
 use Rattle.esc_unit.specs.declared.unit.Unit.{Unit}
-use Rattle.unit_text.specs.Line.{lineEnd, lineRead, printedLine}
+use Rattle.unit_text.specs.Line.{lineEnd, readLine, printedLine}
 use Rattle.unit_text.specs.Session.{answerOn, answerLine, unitAfter, lineText}
 use Rattle.unit_text.specs.Stream.{Streamed, after, printed, taken, feedOf, fedOutput, longestLine}
 use Rattle.unit_text.specs.Cut.{firstLine, CutFrom}
 use Rattle.unit_text.specs.Answering.{Answers, PrintedAt}
-use Rattle.unit_text.specs.declared.line.LineRead.{LineRead}
-use Rattle.unit_text.specs.declared.cut.Cut.the-variants.{Open, Line}
+use Rattle.unit_text.specs.declared.cut.Cut.the-variants.{Open}
 use Rattle.unit_text.proofs.PrintLaws.{overwrite-none}
 use Rattle.unit_text.proofs.LinesLaws.{Unended}
 use Rattle.unit_text.proofs.FirstLine.{first-unended, first-split}
@@ -131,15 +131,15 @@ module _ {s : Streamed} {chunk out₀ : List ℕ} {unit : Unit} {line : List ℕ
         (k .count ∙ ap length (sym p)) (rw p (k .text))
 
     -- a line, answered
-    module _ (r : LineRead) (next : ℕ) (line′ bytes′ : List ℕ) (c : CutFrom begun left (Line r next) line′ bytes′)
-        (unit′ : Unit) (reply : List ℕ) (e : Answers unit (lineRead r bytes′) unit′ reply)
+    module _ (heard : Reply (List ℕ)) (next : ℕ) (ended : length (firstLine left) < length left) (behind : next ≡ length (firstLine left) + 1)
+        (read : heard ≡ readLine (begun ++ firstLine left)) (unit′ : Unit) (reply : List ℕ) (e : Answers unit heard unit′ reply)
         (written′ : ℕ) (out′ : List ℕ) (p : PrintedAt reply written out written′ out′) where
       abbrev more : List ℕ
       more = firstLine left
 
-      answers : answerOn unit (lineRead r bytes′) ≡ answerLine unit (begun ++ more)
+      answers : answerOn unit heard ≡ answerLine unit (begun ++ more)
       unfolding answerLine
-      answers = ap (answerOn unit) (c .2)
+      answers = ap (answerOn unit) read
 
       said : printedLine reply ≡ lineText unit (begun ++ more)
       unfolding lineText
@@ -153,8 +153,8 @@ module _ {s : Streamed} {chunk out₀ : List ℕ} {unit : Unit} {line : List ℕ
       further =
           take-add used next chunk
           ∙ ap (λ (l : List ℕ). take used chunk ++ l)
-          (ap (take next) (first-split left (c .0) ∙ sym (append-assoc more (lineEnd ∷ []) (drop (length more + 1) left)))
-          ∙ take-at (more ++ lineEnd ∷ []) (drop (length more + 1) left) next (length-append more (lineEnd ∷ []) ∙ sym (c .1)))
+          (ap (take next) (first-split left (ended) ∙ sym (append-assoc more (lineEnd ∷ []) (drop (length more + 1) left)))
+          ∙ take-at (more ++ lineEnd ∷ []) (drop (length more + 1) left) next (length-append more (lineEnd ∷ []) ∙ sym (behind)))
 
       stream-after : record { unit = unit′; line = [] } ≡ after s (take (used + next) chunk)
       stream-after =
@@ -175,18 +175,18 @@ module _ {s : Streamed} {chunk out₀ : List ℕ} {unit : Unit} {line : List ℕ
       taken-after : taken (after s (take used chunk)) (length out₀ - written) left
           ≡ next + taken (after s (take (used + next) chunk)) (length out₀ - written′) (drop (used + next) chunk)
       taken-after =
-          let rest : drop (length more + 1) left ≡ drop (used + next) chunk = drop-drop (length more + 1) used chunk ∙ ap (λ (n : ℕ). drop (used + n) chunk) (sym (c .1)) in
+          let rest : drop (length more + 1) left ≡ drop (used + next) chunk = drop-drop (length more + 1) used chunk ∙ ap (λ (n : ℕ). drop (used + n) chunk) (sym (behind)) in
           let room : length out₀ - written - length (lineText unit (begun ++ more)) ≡ length out₀ - written′ = omega (arith, next-place) in
           rw (← k .stream, ← stream-after, unit-after)
-          (ap (taken (record { unit = unit; line = begun }) (length out₀ - written)) (first-split left (c .0))
+          (ap (taken (record { unit = unit; line = begun }) (length out₀ - written)) (first-split left (ended))
           ∙ taken-line unit begun more short (first-unended left) (length out₀ - written) (drop (length more + 1) left) roomy
-          ∙ rw (rest, room) (omega (arith, c .1)))
+          ∙ rw (rest, room) (omega (arith, behind)))
 
-      pub feeding-line : length line′ ≡ 59 → length bytes′ ≡ 29 → length out′ ≡ length out
-          → Feeding s chunk out₀ (unit′) line′ 0 bytes′ out′ (used + next) (written′)
-      feeding-line b l o =
+      pub feeding-line : (line′ bytes′ : List ℕ) → length line′ ≡ 59 → length bytes′ ≡ 29 → length out′ ≡ length out
+          → Feeding s chunk out₀ unit′ line′ 0 bytes′ out′ (used + next) written′
+      feeding-line line′ bytes′ b l o =
           record {
-            within = goes-on next (c .0) (c .1);
+            within = goes-on next (ended) (behind);
             buffer = b;
             holds = omega arith;
             room = l;

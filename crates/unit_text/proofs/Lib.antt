@@ -15,7 +15,9 @@ pub mod LineTurn
 pub mod Feeding
 pub mod AnswersLaws
 pub mod WrittenLine
+pub mod PairsLaws
 pub mod WholeLine
+pub mod WireRead
 pub mod HandLaws
 pub mod FedLaws
 pub mod FinishLaws

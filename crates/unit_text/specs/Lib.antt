@@ -4,7 +4,7 @@ pub mod Session
 pub mod Stream
 pub mod Cut
 pub mod Answering
-pub mod HeldByte
+pub mod WireLine
 pub mod Streams
 pub mod Handed
 pub mod Traced

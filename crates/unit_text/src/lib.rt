@@ -4,10 +4,10 @@ mod answer;
 mod cut;
 mod digit;
 mod hand;
-mod held_byte;
 mod line;
 mod stream;
 mod whole_session;
+mod wire_line;
 
 pub use hand::Handed;
 pub use stream::Fed;

@@ -17,10 +17,11 @@ use crate::cut::next_line;
 use crate::digit::digits;
 use crate::hand::Handed;
 use crate::hand::hand;
-use crate::held_byte::HeldByte;
-use crate::held_byte::held_byte;
 use crate::line::LINE_END;
 use crate::line::LONGEST_RECORD;
+use crate::wire_line::WIRE_LINE;
+use crate::wire_line::WireLine;
+use crate::wire_line::held_byte;
 use esc_unit::Admitted;
 use esc_unit::Left;
 use esc_unit::Unit;
@@ -85,47 +86,48 @@ impl Stream {
                     written,
                 };
             }
-            let cut = next_line(&digits, &chunk[used..], &mut line, held, &mut bytes);
-            match cut {
-                Cut::Open(n) => {
-                    let unit = Unit {
-                        opened,
-                        manager,
-                        books,
-                    };
-                    let stream = Stream {
-                        unit,
-                        line,
-                        held: n,
-                    };
-                    return Fed {
-                        stream,
-                        used: chunk.len(),
-                        written,
-                    };
+            let parser = manager.parser;
+            let byte = held_byte(&digits, &chunk[used..], held, opened, parser);
+            match byte {
+                WireLine::Byte(byte, at_ms) => {
+                    let collected = parser.collected(byte);
+                    manager.parser = collected;
+                    let fault = manager.fault;
+                    let heard = fault.heard(at_ms);
+                    manager.fault = heard;
+                    written = print_nothing(out, written);
+                    used += WIRE_LINE + 1;
                 }
-                Cut::Line(read, next) => {
-                    held = 0;
-                    used += next;
-                    let taken = take(opened, read, &bytes);
-                    match taken {
-                        Admitted::Refused(number) => {
-                            written = print_refusal(number, out, written);
+                WireLine::Other => {
+                    let cut = next_line(&digits, &chunk[used..], &mut line, held, &mut bytes);
+                    match cut {
+                        Cut::Open(n) => {
+                            let unit = Unit {
+                                opened,
+                                manager,
+                                books,
+                            };
+                            let stream = Stream {
+                                unit,
+                                line,
+                                held: n,
+                            };
+                            return Fed {
+                                stream,
+                                used: chunk.len(),
+                                written,
+                            };
                         }
-                        Admitted::Record(record) => {
-                            opened = true;
-                            let parser = manager.parser;
-                            let byte = held_byte(parser, record);
-                            match byte {
-                                HeldByte::Byte(byte, at_ms) => {
-                                    let collected = parser.collected(byte);
-                                    manager.parser = collected;
-                                    let fault = manager.fault;
-                                    let heard = fault.heard(at_ms);
-                                    manager.fault = heard;
-                                    written = print_nothing(out, written);
+                        Cut::Line(read, next) => {
+                            held = 0;
+                            used += next;
+                            let taken = take(opened, read, &bytes);
+                            match taken {
+                                Admitted::Refused(number) => {
+                                    written = print_refusal(number, out, written);
                                 }
-                                HeldByte::Other => {
+                                Admitted::Record(record) => {
+                                    opened = true;
                                     let done = manage(manager, record);
                                     let after = done.manager;
                                     manager = after;

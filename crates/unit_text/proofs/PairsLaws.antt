@@ -1,0 +1,69 @@
+-- Characters two by two: digits, and so no LF; two more at a time; the byte at each place.
+use mathlib.Core.Path.{_≡_, refl, sym, ap, _∙_}
+use mathlib.Core.Bool.{Bool, true, false, _&&_, false≢true}
+use mathlib.Core.List.{List, [], _∷_, _++_, append-assoc}
+use Prim.Native.Nat.{ℕ, zero, suc, _+_, _*_, _%_, _<_}
+use native.Mathlib.Omega.{arith}
+use native.Mathlib.Numerals.{add-one}
+use borrow.Author.Tests.{lt-ltb}
+use lib.ListN.{length, getD, take}
+use lib.Seq.{take-suc}
+use Rattle.unit_text.specs.Digit.{digitOf, isDigit}
+use Rattle.unit_text.specs.Line.{allDigits, pairs}
+use Rattle.unit_text.proofs.LinesLaws.{Unended}
+
+both : (a b : Bool) → a && b ≡ true → (a ≡ true) × (b ≡ true)
+both true b e = (refl, e)
+both false b e = absurd (false≢true e)
+
+-- LF is no digit
+pub unended-digits : (line : List ℕ) → allDigits line ≡ true → Unended line
+unfolding allDigits digitOf
+unended-digits [] e = tt
+unended-digits (c ∷ line) e =
+    let good = both (isDigit c) (allDigits line) e in
+    (λ lf. false≢true (sym (ap isDigit lf) ∙ good .0), unended-digits line (good .1))
+
+-- two digits more
+module _ (c d : ℕ) where
+  digits-two : (line : List ℕ) → allDigits line ≡ true → digitOf c < 16 → digitOf d < 16 → allDigits (line ++ c ∷ d ∷ []) ≡ true
+  unfolding allDigits
+  digits-two [] e gc gd = rw (lt-ltb (digitOf c) 16 gc, lt-ltb (digitOf d) 16 gd)
+  digits-two (a ∷ line) e gc gd =
+      let good = both (isDigit a) (allDigits line) e in
+      rw (good .0) (digits-two line (good .1) gc gd)
+
+  pub pairs-two : (line : List ℕ) → length line % 2 ≡ 0 → pairs (line ++ c ∷ d ∷ []) ≡ pairs line ++ (digitOf c * 16 + digitOf d) ∷ []
+  unfolding pairs
+  pairs-two [] e = refl
+  pairs-two (a ∷ []) e = absurd (omega arith)
+  pairs-two (a ∷ b ∷ line) e = ap (λ (l : List ℕ). (digitOf a * 16 + digitOf b) ∷ l) (pairs-two line (omega arith))
+
+-- two characters more of a chunk
+module _ (chunk : List ℕ) (place : ℕ) (h : place + 1 < length chunk) where
+  pub take-two : take (place + 2) chunk ≡ take place chunk ++ getD chunk place 0 ∷ getD chunk (place + 1) 0 ∷ []
+  take-two =
+      let two : place + 2 ≡ suc (suc place) = omega arith in
+      rw (two, take-suc chunk (suc place) 0 (omega arith), take-suc chunk place 0 (omega arith), add-one place) (append-assoc (take place chunk) (getD chunk place 0 ∷ []) (getD chunk (suc place) 0 ∷ []))
+
+  pub digits-more : allDigits (take place chunk) ≡ true → digitOf (getD chunk place 0) < 16 → digitOf (getD chunk (place + 1) 0) < 16
+      → allDigits (take (place + 2) chunk) ≡ true
+  digits-more e gc gd = rw take-two (digits-two (getD chunk place 0) (getD chunk (place + 1) 0) (take place chunk) e gc gd)
+
+pub pairs-length : (line : List ℕ) (k : ℕ) → length line ≡ 2 * k → length (pairs line) ≡ k
+unfolding pairs
+pairs-length [] k e = omega arith
+pairs-length (a ∷ []) k e = absurd (omega arith)
+pairs-length (a ∷ b ∷ line) zero e = absurd (omega arith)
+pairs-length (a ∷ b ∷ line) (suc k) e = ap suc (pairs-length line k (omega arith))
+
+pub pairs-at : (line : List ℕ) (i : ℕ) → 2 * i + 1 < length line
+    → getD (pairs line) i 0 ≡ digitOf (getD line (2 * i) 0) * 16 + digitOf (getD line (2 * i + 1) 0)
+unfolding pairs
+pairs-at [] i h = absurd (omega arith)
+pairs-at (a ∷ []) i h = absurd (omega arith)
+pairs-at (a ∷ b ∷ line) zero h = refl
+pairs-at (a ∷ b ∷ line) (suc i) h =
+    let first : 2 * suc i ≡ suc (suc (2 * i)) = omega arith in
+    let second : 2 * suc i + 1 ≡ suc (suc (2 * i + 1)) = omega arith in
+    rw (second, first) (pairs-at line i (omega arith))

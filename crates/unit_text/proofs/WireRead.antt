@@ -1,0 +1,96 @@
+-- A wire byte's line: its ten bytes are a 05, whose time is the number of the last eight.
+use mathlib.Core.Path.{_≡_, refl, sym, ap, _∙_}
+use mathlib.Core.Bool.{Bool, true}
+use lib.Dec.{ltb}
+use mathlib.Core.List.{List}
+use Prim.Native.Nat.{ℕ, _+_, _*_, _^_, _≤_, _<_}
+use native.Mathlib.Omega.{arith}
+use lib.ListN.{length, getD, take}
+use lib.Seq.{length-take-le, getD-take}
+use Rattle.blheli_telemetry.specs.BigEndian.{numberAt}
+use Rattle.blheli_telemetry.specs.Reply.{accepted}
+use Rattle.blheli_telemetry.specs.declared.parser.StreamParser.{StreamParser}
+use Rattle.esc_unit.specs.Record.{recordOf, readRecord}
+use Rattle.esc_unit.specs.declared.record.Record.the-variants as kind
+use Rattle.esc_unit.proofs.NumberLaws.{number-more, below-more}
+use Rattle.esc_unit.proofs.RecordLaws.{read-accepted}
+use Rattle.esc_unit.proofs.UnitLaws.{admitted-open}
+use Rattle.unit_text.specs.Digit.{digitOf}
+use Rattle.unit_text.specs.Line.{lineEnd, allDigits, pairs}
+use Rattle.unit_text.specs.Cut.{firstLine}
+use Rattle.unit_text.specs.Answering.{takenBy}
+use Rattle.unit_text.specs.WireLine.{WireFrom, HeldFrom}
+use Rattle.unit_text.specs.declared.wire_line.WireLine.{WireLine}
+use Rattle.unit_text.specs.declared.wire_line.WireLine.the-variants as wire
+use Rattle.unit_text.proofs.FirstLine.{first-ended}
+use Rattle.unit_text.proofs.LineLaws.{read-whole}
+use Rattle.unit_text.proofs.PairsLaws.{unended-digits, digits-more, pairs-length, pairs-at}
+
+-- ten bytes that begin with 05
+wire-record : (s : List ℕ) → length s ≡ 10 → getD s 0 0 ≡ 0x05 → readRecord s ≡ accepted (kind.WireByte (getD s 1 0) (numberAt 8 s 2))
+unfolding recordOf
+wire-record s l e =
+    read-accepted s (record { known = rw e (omega arith); width = rw e l }) (rw e) (rw e)
+    ∙ ap accepted (rw e)
+
+-- the bytes of a line of 20 characters
+abbrev spelt : List ℕ → List ℕ
+spelt chunk = pairs (take 20 chunk)
+
+-- while the time is read
+pub record Timed (chunk : List ℕ) (t k : ℕ) : Type 0 where
+  pub within : k ≤ 8
+  pub digits : allDigits (take (4 + 2 * k) chunk) ≡ true
+  pub time : t ≡ numberAt k (spelt chunk) 2
+  pub small : t < 256 ^ k
+
+module _ (chunk : List ℕ) (long : 20 < length chunk) where
+  all : length (take 20 chunk) ≡ 20
+  all = length-take-le 20 chunk (omega arith)
+
+  -- the byte at a place, by its two characters
+  spelt-at : (i : ℕ) → i < 10 → getD (spelt chunk) i 0 ≡ digitOf (getD chunk (2 * i) 0) * 16 + digitOf (getD chunk (2 * i + 1) 0)
+  spelt-at i h =
+      rw (pairs-at (take 20 chunk) i (omega (arith, all)), getD-take 20 chunk (2 * i) 0 (omega arith), getD-take 20 chunk (2 * i + 1) 0 (omega arith))
+
+  pub timed-none : getD chunk 0 0 ≡ 0x30 → getD chunk 1 0 ≡ 0x35 → digitOf (getD chunk 2 0) < 16 → digitOf (getD chunk 3 0) < 16 → Timed chunk 0 0
+  unfolding numberAt allDigits digitOf
+  timed-none e f gc gd =
+      record {
+        within = omega arith;
+        digits = digits-more chunk 2 (omega arith) (digits-more chunk 0 (omega arith) refl (rw e (omega arith)) (rw f (omega arith))) gc gd;
+        time = refl;
+        small = omega arith;
+      }
+
+  module _ {t k : ℕ} (r : Timed chunk t k) where
+    pub timed-more : (upper lower v : ℕ) → k < 8 → upper ≡ digitOf (getD chunk (4 + 2 * k) 0) → upper < 16
+        → lower ≡ digitOf (getD chunk (4 + 2 * k + 1) 0) → lower < 16 → v ≡ upper * 16 + lower → Timed chunk (t * 256 + v) (k + 1)
+    timed-more upper lower v h eu gu el gl ev =
+        let place : 2 * (2 + k) ≡ 4 + 2 * k = omega arith in
+        let next : 4 + 2 * (k + 1) ≡ 4 + 2 * k + 2 = omega arith in
+        let byte : getD (spelt chunk) (2 + k) 0 ≡ v = spelt-at (2 + k) (omega arith) ∙ rw (place, ← eu, ← el) (sym ev) in
+        record {
+          within = omega arith;
+          digits = rw next (digits-more chunk (4 + 2 * k) (omega arith) (r .digits) (omega arith) (omega arith));
+          time = rw (← byte, r .time) (number-more k (spelt chunk) 2);
+          small = below-more k t v (r .small) (omega arith);
+        }
+
+    pub timed-all : k ≡ 8 → getD chunk 20 0 ≡ lineEnd → getD chunk 0 0 ≡ 0x30 → getD chunk 1 0 ≡ 0x35
+        → (high low : ℕ) → high ≡ digitOf (getD chunk 2 0) → low ≡ digitOf (getD chunk 3 0) → WireFrom chunk (wire.Byte (high * 16 + low) t)
+    unfolding digitOf
+    timed-all e lf zero-digit five high low eh el =
+        let digits : allDigits (take 20 chunk) ≡ true = rw e at (r .digits) in
+        let line : firstLine chunk ≡ take 20 chunk = first-ended chunk 20 (unended-digits (take 20 chunk) digits) long lf in
+        let first : getD (spelt chunk) 0 0 ≡ 0x05 = spelt-at 0 (omega arith) ∙ rw (zero-digit, five) in
+        let second : getD (spelt chunk) 1 0 ≡ high * 16 + low = spelt-at 1 (omega arith) ∙ rw (← eh, ← el) in
+        let time : numberAt 8 (spelt chunk) 2 ≡ t = rw e at (sym (r .time)) in
+        let record-read : readRecord (spelt chunk) ≡ accepted (kind.WireByte (high * 16 + low) t) =
+        wire-record (spelt chunk) (pairs-length (take 20 chunk) 10 all) first ∙ rw (second, time) in
+        record { long = long; ends = rw line all; taken = rw line (ap (takenBy true) (read-whole (take 20 chunk) (omega (arith, all)) digits (omega (arith, all))) ∙ admitted-open true (spelt chunk) _ record-read refl) }
+
+pub held-wire : (held : ℕ) (opened : Bool) (p : StreamParser) (chunk : List ℕ) (r : WireLine) → held ≡ 0 → opened ≡ true → ltb (p .len) 9 ≡ true
+    → WireFrom chunk r → HeldFrom held opened p chunk r
+held-wire held opened p chunk wire.Other n o f w = tt
+held-wire held opened p chunk (wire.Byte x t) n o f w = record { none = n; before = o; few = f; line = w }

@@ -1,0 +1,85 @@
+// A line with a wire byte, as most lines of a session are: it is read straight into its numbers.
+ghost use mathlib.Core.Path.{_≡_};
+ghost use Prim.Native.Nat.{_<_};
+ghost use Rattle.unit_text.specs.Digit.{Tabled};
+ghost use Rattle.unit_text.specs.WireLine.{WireFrom, HeldFrom};
+use crate::digit::NO_DIGIT;
+use crate::line::LINE_END;
+use crate::line::value;
+use blheli_telemetry::StreamParser;
+
+// How many characters it has: two of the kind, two of the byte, sixteen of the time.
+pub(crate) const WIRE_LINE: usize = 20;
+
+pub(crate) enum WireLine {
+    // The byte, and its time.
+    Byte(u8, u64),
+    // Another line, or one that is read by way of its record.
+    Other,
+}
+
+// The byte at the front of a chunk, where it is a line of its own and the parser of an opened unit only
+// holds it: it then moves nothing but the parser and the fault's quiet time.
+pub(crate) fn held_byte(
+    digits: &[u8; 256],
+    chunk: &[u8],
+    held: usize,
+    opened: bool,
+    parser: StreamParser,
+) -> WireLine
+    requires { ⌜ Tabled (now digits) ⌝ }
+    ensures { λ r. ⌜ HeldFrom held opened parser (now (chunk .entry)) r ⌝ }
+{
+    if held != 0 {
+        return WireLine::Other;
+    }
+    if !opened {
+        return WireLine::Other;
+    }
+    if !parser.collects() {
+        return WireLine::Other;
+    }
+    wire_line(digits, chunk)
+}
+
+fn wire_line(digits: &[u8; 256], chunk: &[u8]) -> WireLine
+    requires { ⌜ Tabled (now digits) ⌝ }
+    ensures { λ r. ⌜ WireFrom (now (chunk .entry)) r ⌝ }
+{
+    if chunk.len() <= WIRE_LINE {
+        return WireLine::Other;
+    }
+    if chunk[WIRE_LINE] != LINE_END {
+        return WireLine::Other;
+    }
+    if chunk[0] != b'0' {
+        return WireLine::Other;
+    }
+    if chunk[1] != b'5' {
+        return WireLine::Other;
+    }
+    let high = value(digits, chunk[2]);
+    let low = value(digits, chunk[3]);
+    if high / NO_DIGIT + low / NO_DIGIT != 0 {
+        return WireLine::Other;
+    }
+    let mut at_ms: u64 = 0;
+    let mut read: usize = 0;
+    while read < 8 {
+        let place = 4 + 2 * read;
+        let upper = value(digits, chunk[place]);
+        let lower = value(digits, chunk[place + 1]);
+        if upper / NO_DIGIT + lower / NO_DIGIT != 0 {
+            return WireLine::Other;
+        }
+        at_ms = at_ms * 256 + wide(upper * 16 + lower);
+        read += 1;
+    }
+    WireLine::Byte(high * 16 + low, at_ms)
+}
+
+fn wide(byte: u8) -> u64
+    ensures { λ r. ⌜ (r ≡ byte) × (r < 256) ⌝ }
+{
+    byte as u64
+}
