@@ -33,7 +33,7 @@ noise = opening 0 ∷ ask 0 0 1 ++ zeros 10 none 2
 abbrev pub shifted : List Marked
 shifted = opening 0 ∷ zeros 1 none 1 ++ (ask 0 0 2 ++ (zeros 10 (some 0) 3 ++ (ask 1 1 4 ++ zeros 9 (some 1) 5)))
 
--- E2: arm 1 sends before it is asked
+-- E2: arm 1 sends before it is asked. Its row has it asked afterwards, so that the bytes' request has an arm
 abbrev pub early : List Marked
 early = opening 0 ∷ ask 0 0 1 ++ zeros 10 (some 1) 2
 

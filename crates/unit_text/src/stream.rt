@@ -64,6 +64,7 @@ impl Stream {
     {
         let digits = digits();
         let mut bytes = [0u8; LONGEST_RECORD];
+        // The unit's parts are variables of their own, so that a line moves only what it touches.
         let first = self.unit;
         let mut opened = first.opened;
         let mut manager = first.manager;
