@@ -6,8 +6,8 @@ use Prim.Native.Nat.{ℕ}
 use lib.Dec.{eqb}
 use lib.ListN.{length, getD}
 use borrow.Author.Tests.{eqb-true}
-use Rattle.blheli_telemetry.specs.Choice.{pick}
-use Rattle.blheli_telemetry.specs.Reply.{accepted, refused, isAccepted}
+use Rattle.base.specs.Choice.{pick}
+use Rattle.base.specs.Reply.{accepted, refused, isAccepted}
 use Rattle.airframe.specs.Motor.{digit, numberOf}
 use Rattle.airframe.specs.Once.{times, eachOnce}
 use Rattle.airframe.specs.BoardMap.{mapOf, readMap}

@@ -1,6 +1,6 @@
 -- A lane's or a motor's number, converted, gives what the lane or the motor gives: each number reads as its own.
 use mathlib.Core.Path.{_≡_, refl, ap}
-use Rattle.blheli_telemetry.specs.Reply.{accepted}
+use Rattle.base.specs.Reply.{accepted}
 use Rattle.esc_feedback.specs.Output.{laneNumber, laneOf}
 use Rattle.esc_feedback.specs.declared.output.Lane.{Lane}
 use Rattle.esc_feedback.specs.declared.output.Lane.the-variants.{Output1, Output2, Output3, Output4}

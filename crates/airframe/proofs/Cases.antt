@@ -1,7 +1,7 @@
 -- Document 01's 'Cases for the proved table' that speak of the speed, of the rule itself, by computation.
 use mathlib.Core.Path.{_≡_, refl}
 use Prim.Native.Nat.{ℕ}
-use Rattle.blheli_telemetry.specs.Reply.{accepted, refused}
+use Rattle.base.specs.Reply.{accepted, refused}
 use Rattle.airframe.specs.Speed.{speedOf}
 
 pub record SpeedCases : Type 0 where

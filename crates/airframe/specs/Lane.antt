@@ -1,8 +1,8 @@
 -- Reading an output lane 0 to 3 from a byte.
 use Prim.Native.Nat.{ℕ}
 use lib.Dec.{eqb}
-use Rattle.blheli_telemetry.specs.Choice.{pick}
-use Rattle.blheli_telemetry.specs.Reply.{Reply, accepted, refused}
+use Rattle.base.specs.Choice.{pick}
+use Rattle.base.specs.Reply.{Reply, accepted, refused}
 use Rattle.esc_feedback.specs.declared.output.EscOutput.{EscOutput}
 use Rattle.esc_feedback.specs.declared.output.Lane.the-variants.{Output1, Output2, Output3, Output4}
 use Rattle.airframe.specs.declared.lane.OutputRead.{OutputRead}

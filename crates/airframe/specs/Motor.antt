@@ -2,8 +2,8 @@
 use Prim.Native.Nat.{ℕ}
 use mathlib.Core.Bool.{Bool}
 use lib.Dec.{eqb, leb}
-use Rattle.blheli_telemetry.specs.Choice.{pick}
-use Rattle.blheli_telemetry.specs.Reply.{Reply, accepted, refused}
+use Rattle.base.specs.Choice.{pick}
+use Rattle.base.specs.Reply.{Reply, accepted, refused}
 use Rattle.airframe.specs.declared.motor.MotorNumber.{MotorNumber}
 use Rattle.airframe.specs.declared.motor.MotorNumber.the-variants.{One, Two, Three, Four}
 use Rattle.airframe.specs.declared.motor.Motor.{Motor}

@@ -1,8 +1,8 @@
 -- A motor's speed (document 01): eRPM/100 × 200 divided by magnets, rounded down.
 use Prim.Native.Nat.{ℕ, _*_, _/_, _%_}
 use lib.Dec.{eqb}
-use Rattle.blheli_telemetry.specs.Choice.{pick}
-use Rattle.blheli_telemetry.specs.Reply.{Reply, accepted, refused}
+use Rattle.base.specs.Choice.{pick}
+use Rattle.base.specs.Reply.{Reply, accepted, refused}
 use Rattle.airframe.specs.declared.speed.MotorSpeed.{MotorSpeed}
 use Rattle.airframe.specs.declared.speed.MotorSpeed.the-variants.{Rpm, Magnets}
 

@@ -10,7 +10,7 @@ use lib.ListN.{length, length-append, length-map}
 use borrow.Author.Tests.{eq-eqb}
 use Rattle.blheli_telemetry.specs.Crc.{crcOf}
 use Rattle.blheli_telemetry.specs.Frame.{telemetryOf}
-use Rattle.blheli_telemetry.proofs.ByCases.{below-or-not}
+use Rattle.base.proofs.ByCases.{below-or-not}
 use Rattle.esc_feedback.specs.declared.request.EscActuatorRequest.{EscActuatorRequest}
 use Rattle.booking.specs.History.{Byte, Past}
 use Rattle.booking.specs.Wire.{OnWire, byte, Frame, wire, latest, frameAt, timed}

@@ -1,9 +1,9 @@
 -- A run with marks is the trace that the rule alone computes, since the unit's replies are the rule's.
 use mathlib.Core.Path.{_≡_, refl, _∙_, ap}
 use mathlib.Core.List.{List, [], _∷_}
-use Rattle.blheli_telemetry.specs.Reply.{Reply}
+use Rattle.base.specs.Reply.{Reply}
 use Rattle.esc_unit.specs.Unit.{neverOpened, callOf}
-use Rattle.esc_unit.specs.declared.answer.Answer.{Answer}
+use Rattle.esc_records.specs.declared.answer.Answer.{Answer}
 use Rattle.esc_unit.specs.declared.unit.Unit.{Unit}
 use Rattle.booking.specs.History.{since}
 use Rattle.booking.specs.Rule.{ruleFor}

@@ -8,7 +8,7 @@ use Prim.Native.Nat.{ℕ, _≤_}
 use native.Mathlib.Omega.{arith}
 use lib.Dec.{leb}
 use borrow.Author.Tests.{le-leb}
-use Rattle.booking.specs.Maybe.{is}
+use Rattle.base.specs.Maybe.{is}
 use Rattle.booking.specs.History.{Byte}
 use Rattle.booking.specs.Faults.{faulted}
 use Rattle.attribution.specs.Marks.{Entry, Log, sinceIn, past}

@@ -12,10 +12,10 @@ use Rattle.esc_feedback.specs.declared.answer.EscManagerTimeout.{EscManagerTime
 use Rattle.esc_feedback.specs.declared.request.EscActuatorRequest.{EscActuatorRequest}
 use Rattle.esc_feedback.specs.declared.request.EscTelemetryUpdate.{EscTelemetryUpdate}
 use Rattle.esc_unit.specs.Unit.{opens}
-use Rattle.esc_unit.specs.declared.record.Record.{Record}
-use Rattle.esc_unit.specs.declared.record.Record.the-variants as kind
-use Rattle.esc_unit.specs.declared.answer.Answer.the-variants as answer
-use Rattle.booking.specs.Maybe.{is, onlyIf}
+use Rattle.esc_records.specs.declared.record.Record.{Record}
+use Rattle.esc_records.specs.declared.record.Record.the-variants as kind
+use Rattle.esc_records.specs.declared.answer.Answer.the-variants as answer
+use Rattle.base.specs.Maybe.{is, onlyIf}
 use Rattle.booking.specs.History.{Opening, Timed, Byte, Past, Since, seen}
 use Rattle.booking.specs.Wire.{Frame, wire, frameAt, timed}
 use Rattle.booking.specs.Booking.{booked, bookedTo, onlyThe, openRequest, latestFrame, newlyStarted, startedRequest}

@@ -10,7 +10,7 @@ use lib.ListN.{length, length-append}
 use borrow.Author.Tests.{eqb-false}
 use Rattle.esc_feedback.specs.declared.request.EscActuatorRequest.{EscActuatorRequest}
 use Rattle.esc_feedback.specs.declared.request.EscTelemetryUpdate.{EscTelemetryUpdate}
-use Rattle.booking.specs.Maybe.{is}
+use Rattle.base.specs.Maybe.{is}
 use Rattle.attribution.specs.Marks.{Marked, Entry, Log, logOf, logAfter}
 use Rattle.attribution.specs.Origin.{requests, sentBy}
 use Rattle.attribution.specs.Attributed.{CameFrom}

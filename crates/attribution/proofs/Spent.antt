@@ -8,8 +8,8 @@ use native.Mathlib.Omega.{arith}
 use lib.ListN.{length, length-append}
 use lib.Dec.{eqb, leb, ltb}
 use borrow.Author.Tests.{ltb-true, leb-true}
-use Rattle.blheli_telemetry.specs.Choice.{pick}
-use Rattle.booking.specs.Maybe.{is}
+use Rattle.base.specs.Choice.{pick}
+use Rattle.base.specs.Maybe.{is}
 use Rattle.booking.specs.History.{Byte}
 use Rattle.attribution.specs.Marks.{Entry, Log}
 use Rattle.attribution.specs.Origin.{requests, addByte, sentBy, atRecovery, atOpening}

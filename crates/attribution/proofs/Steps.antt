@@ -11,10 +11,10 @@ use Rattle.esc_feedback.specs.declared.request.EscTelemetryUpdate.{EscTelemetry
 use Rattle.esc_feedback.specs.declared.answer.EscManagerTimeout.{EscManagerTimeout}
 use Rattle.esc_feedback.specs.declared.answer.EscManagerTimeout.the-variants as timeout
 use Rattle.esc_unit.specs.Unit.{opens}
-use Rattle.esc_unit.specs.declared.record.Record.{Record}
-use Rattle.esc_unit.specs.declared.record.Record.the-variants as kind
-use Rattle.esc_unit.specs.declared.answer.IdleAnswer.{IdleAnswer}
-use Rattle.esc_unit.specs.declared.answer.Answer.the-variants as answer
+use Rattle.esc_records.specs.declared.record.Record.{Record}
+use Rattle.esc_records.specs.declared.record.Record.the-variants as kind
+use Rattle.esc_records.specs.declared.answer.IdleAnswer.{IdleAnswer}
+use Rattle.esc_records.specs.declared.answer.Answer.the-variants as answer
 use Rattle.booking.specs.History.{Opening, Timed, Byte, Seen, Past, Since, seen}
 use Rattle.booking.specs.Wire.{Frame, wire, frameAt, timed}
 use Rattle.booking.specs.Booking.{bookedTo, openRequest, latestFrame, newlyStarted, startedRequest}

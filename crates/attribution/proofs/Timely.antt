@@ -10,15 +10,15 @@ use native.Mathlib.Nat.{one-le-pow, le-mul-of-pos-right}
 use lib.ListN.{length}
 use lib.Dec.{eqb, leb}
 use borrow.Author.Tests.{leb-true, leb-false, ltb-true, eqb-true, ne-eqb}
-use Rattle.blheli_telemetry.specs.Choice.{pick}
+use Rattle.base.specs.Choice.{pick}
 use Rattle.esc_feedback.specs.declared.config.EscManagerConfig.{EscManagerConfig}
 use Rattle.esc_feedback.specs.declared.answer.EscManagerTimeout.{EscManagerTimeout}
 use Rattle.esc_feedback.specs.declared.request.EscActuatorRequest.{EscActuatorRequest}
 use Rattle.esc_feedback.specs.declared.request.EscTelemetryUpdate.{EscTelemetryUpdate}
 use Rattle.esc_unit.specs.Unit.{opens}
-use Rattle.esc_unit.specs.declared.record.Record.{Record}
-use Rattle.esc_unit.specs.declared.record.Record.the-variants as kind
-use Rattle.esc_unit.specs.declared.answer.Answer.the-variants as answer
+use Rattle.esc_records.specs.declared.record.Record.{Record}
+use Rattle.esc_records.specs.declared.record.Record.the-variants as kind
+use Rattle.esc_records.specs.declared.answer.Answer.the-variants as answer
 use Rattle.booking.specs.History.{Opening, Byte, Past, Since, seen}
 use Rattle.booking.specs.Faults.{faulted, quietSince, retries}
 use Rattle.booking.specs.Claims.{pastOf}

@@ -4,8 +4,8 @@ use mathlib.Core.List.{List, _∷_}
 use mathlib.Core.Option.{Option, none, some, Option·none-ne-some}
 use mathlib.Core.Bool.{Bool, true, false}
 use Prim.Native.Nat.{ℕ, zero, suc}
-use Rattle.blheli_telemetry.specs.Choice.{pick}
-use Rattle.booking.specs.Maybe.{orElse}
+use Rattle.base.specs.Choice.{pick}
+use Rattle.base.specs.Maybe.{orElse}
 use Rattle.booking.specs.History.{Byte, Past}
 use Rattle.booking.specs.Wire.{OnWire, byte, cut, Frame, wire, latest, frameAt, timed}
 use Rattle.booking.specs.Booking.{latestFrame}

@@ -2,7 +2,7 @@
 use mathlib.Core.Path.{_≡_}
 use mathlib.Core.Bool.{Bool, true, false, not, _||_}
 use mathlib.Core.List.{List, [], _∷_}
-use Rattle.booking.specs.Maybe.{is}
+use Rattle.base.specs.Maybe.{is}
 use Rattle.booking.specs.Wire.{OnWire, byte, cut, wire}
 use Rattle.booking.specs.Booking.{openRequest}
 use Rattle.attribution.specs.Marks.{Log, past}

@@ -2,11 +2,11 @@
 use Prim.Native.Nat.{ℕ}
 use mathlib.Core.List.{List, [], _∷_, map}
 use mathlib.Core.Option.{Option, none}
-use Rattle.blheli_telemetry.specs.Reply.{Reply, accepted, refused}
-use Rattle.esc_unit.specs.Record.{readRecord}
+use Rattle.base.specs.Reply.{Reply, accepted, refused}
+use Rattle.esc_records.specs.Record.{readRecord}
 use Rattle.esc_unit.specs.Unit.{neverOpened, callOf}
-use Rattle.esc_unit.specs.declared.record.Record.{Record}
-use Rattle.esc_unit.specs.declared.answer.Answer.{Answer}
+use Rattle.esc_records.specs.declared.record.Record.{Record}
+use Rattle.esc_records.specs.declared.answer.Answer.{Answer}
 use Rattle.esc_unit.specs.declared.unit.Unit.{Unit}
 use Rattle.booking.specs.History.{Call, Event, History, Seen, seen, Past, Since, then}
 use Rattle.booking.specs.Claims.{pastOf}

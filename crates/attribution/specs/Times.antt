@@ -6,8 +6,8 @@ use mathlib.Core.List.{[], _∷_}
 use mathlib.Core.Option.{Option, none, some}
 use lib.Dec.{eqb, leb, ltb}
 use lib.ListN.{length}
-use Rattle.blheli_telemetry.specs.Choice.{pick}
-use Rattle.booking.specs.Maybe.{is}
+use Rattle.base.specs.Choice.{pick}
+use Rattle.base.specs.Maybe.{is}
 use Rattle.booking.specs.History.{Opening, Timed, Byte, Seen, Since}
 use Rattle.attribution.specs.Marks.{Log, sinceIn}
 use Rattle.attribution.specs.Origin.{requests}

@@ -6,7 +6,7 @@ use mathlib.Core.List.{[], _∷_}
 use mathlib.Core.Option.{Option, none, some}
 use lib.Dec.{leb, ltb}
 use lib.ListN.{length}
-use Rattle.booking.specs.Maybe.{is}
+use Rattle.base.specs.Maybe.{is}
 use Rattle.booking.specs.Faults.{faulted}
 use Rattle.attribution.specs.Marks.{Entry, Log, past}
 use Rattle.attribution.specs.Origin.{requests, sentBy, atRecovery, atOpening}

@@ -5,7 +5,7 @@ use mathlib.Core.List.{List}
 use Prim.Native.Nat.{ℕ, _+_, _<_}
 use native.Mathlib.Omega.{arith}
 use lib.ListN.{length, length-take, length-drop}
-use Rattle.blheli_telemetry.specs.Reply.{isAccepted}
+use Rattle.base.specs.Reply.{isAccepted}
 use Rattle.blheli_telemetry.specs.Capture.{window, good}
 use Rattle.blheli_telemetry.proofs.FrameLaws.{read-length}
 

@@ -3,7 +3,7 @@ use mathlib.Core.Path.{_≡_, refl}
 use mathlib.Core.List.{[], _∷_, _++_}
 use Prim.Native.Nat.{ℕ}
 use lib.ListN.{replicate}
-use Rattle.blheli_telemetry.specs.BigEndian.{numberAt}
+use Rattle.base.specs.BigEndian.{numberAt}
 use Rattle.blheli_telemetry.specs.Crc.{crcBit, crcBits, crcByte, crcFrom, crcOf}
 use Rattle.blheli_telemetry.specs.Frame.{telemetryOf, readFrame}
 use Rattle.blheli_telemetry.specs.Stream.{givenAfter, heldAfter, framed}

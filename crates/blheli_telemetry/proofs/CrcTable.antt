@@ -6,7 +6,7 @@ use lib.Dec.{T, eqb, eqb→eq}
 use lib.ListN.{length, getD}
 use mathlib.Core.Path.{_≡_, subst, sym}
 use Rattle.blheli_telemetry.specs.Crc.{crcBits, Tabled}
-use Rattle.blheli_telemetry.proofs.Table.{every, at}
+use Rattle.base.proofs.Table.{every, at}
 
 -- does an entry stand where the rule has it?
 abbrev pub right : ℕ → ℕ → Bool

@@ -7,7 +7,7 @@ use Prim.Native.Nat.{ℕ}
 use borrow.Author.Tests.{eqb-false}
 use denote.Enum.Declared.{tagOf}
 use types.Run.{OneOf}
-use Rattle.blheli_telemetry.specs.Reply.{Reply, accepted, refused, isAccepted}
+use Rattle.base.specs.Reply.{Reply, accepted, refused, isAccepted}
 use Rattle.blheli_telemetry.specs.Frame.{decoded}
 use Rattle.blheli_telemetry.specs.Parser.{completed}
 use Rattle.blheli_telemetry.specs.declared.frame.EscTelemetry.{EscTelemetry}

@@ -7,13 +7,13 @@ use mathlib.Core.Bool.{Bool, true, false, false≢true}
 use lib.Dec.{eqb}
 use borrow.Author.Tests.{eq-eqb, ne-eqb, eqb-true, le-leb, lt-leb}
 use lib.ListN.{length, getD, take, set}
-use Rattle.blheli_telemetry.specs.Choice.{pick}
-use Rattle.blheli_telemetry.specs.Reply.{accepted, refused, isAccepted}
-use Rattle.blheli_telemetry.specs.BigEndian.{bytesOf, overwrite}
+use Rattle.base.specs.Choice.{pick}
+use Rattle.base.specs.Reply.{accepted, refused, isAccepted}
+use Rattle.base.specs.BigEndian.{bytesOf, overwrite}
 use Rattle.blheli_telemetry.specs.Crc.{crcOf}
 use Rattle.blheli_telemetry.specs.Frame.{telemetryOf, payloadOf, frameOf, readFrame, writeReply, written}
 use Rattle.blheli_telemetry.specs.declared.frame.EscTelemetry.{EscTelemetry}
-use Rattle.blheli_telemetry.proofs.BigEndianLaws.{bytes-one, overwrite-front, overwrite-set, overwrite-append, overwrite-length}
+use Rattle.base.proofs.BigEndianLaws.{bytes-one, overwrite-front, overwrite-set, overwrite-append, overwrite-length}
 
 pub read-length : (f : List ℕ) → (length f ≡ 10 → ⊥) → readFrame f ≡ refused 5
 unfolding readFrame

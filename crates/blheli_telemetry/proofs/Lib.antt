@@ -1,8 +1,5 @@
-pub mod ByCases
-pub mod Table
 pub mod CrcTable
 pub mod CrcLaws
-pub mod BigEndianLaws
 pub mod FrameLaws
 pub mod ParserLaws
 pub mod DecodedLaws

@@ -5,11 +5,11 @@ use Prim.Native.Nat.{ℕ, _<_, _≤_}
 use native.Mathlib.Omega.{arith}
 use lib.ListN.{length, getD, take, drop}
 use lib.Seq.{take-add, take-suc, take-all, drop-drop}
-use Rattle.blheli_telemetry.specs.Reply.{accepted}
-use Rattle.blheli_telemetry.specs.BigEndian.{numberAt, bytesOf}
+use Rattle.base.specs.Reply.{accepted}
+use Rattle.base.specs.BigEndian.{numberAt, bytesOf}
 use Rattle.blheli_telemetry.specs.Frame.{telemetryOf, payloadOf, frameOf, readFrame, Ranged}
 use Rattle.blheli_telemetry.specs.declared.frame.EscTelemetry.{EscTelemetry}
-use Rattle.blheli_telemetry.proofs.BigEndianLaws.{bytes-number}
+use Rattle.base.proofs.BigEndianLaws.{bytes-number}
 use Rattle.blheli_telemetry.proofs.FrameLaws.{read-good, read-accepted}
 
 same : (t u : EscTelemetry) → t .«temperature_c» ≡ u .«temperature_c» → t .«voltage_cv» ≡ u .«voltage_cv» → t .«current_ca» ≡ u .«current_ca»

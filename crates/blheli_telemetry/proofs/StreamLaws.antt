@@ -6,7 +6,7 @@ use native.Mathlib.Omega.{arith}
 use lib.ListN.{length, getD, set, take, drop, length-set, length-take, length-drop, length-append, drop-of-length-le}
 use lib.Seq.{take-suc-set, set-split, take-all, take-at, getD-at}
 use borrow.Author.Tests.{lt-ltb, le-ltb}
-use Rattle.blheli_telemetry.specs.Reply.{Reply, accepted, refused}
+use Rattle.base.specs.Reply.{Reply, accepted, refused}
 use Rattle.blheli_telemetry.specs.Crc.{crcOf}
 use Rattle.blheli_telemetry.specs.Frame.{telemetryOf, readFrame}
 use Rattle.blheli_telemetry.specs.Parser.{countedGood, countedBad, shiftedDown, completed, pushOf, newParser, resetOf}
@@ -16,7 +16,7 @@ use Rattle.blheli_telemetry.specs.declared.parser.ParserStats.{ParserSta
 use Rattle.blheli_telemetry.specs.declared.parser.Parsed.{Parsed}
 use Rattle.blheli_telemetry.specs.declared.parser.Parsed.the-variants.{Sample, Nothing}
 use Rattle.blheli_telemetry.specs.declared.parser.StreamParser.{StreamParser}
-use Rattle.blheli_telemetry.proofs.ByCases.{below-or-not}
+use Rattle.base.proofs.ByCases.{below-or-not}
 use Rattle.blheli_telemetry.proofs.FrameLaws.{read-good, read-bad}
 use Rattle.blheli_telemetry.proofs.ParserLaws.{push-few, push-tenth}
 

@@ -4,7 +4,7 @@ use mathlib.Core.Path.{_≡_}
 use mathlib.Core.Bool.{Bool, true}
 use mathlib.Core.List.{List}
 use lib.ListN.{take, drop}
-use Rattle.blheli_telemetry.specs.Reply.{isAccepted}
+use Rattle.base.specs.Reply.{isAccepted}
 use Rattle.blheli_telemetry.specs.Frame.{readFrame}
 use Rattle.blheli_telemetry.specs.declared.capture.Found.{Found}
 use Rattle.blheli_telemetry.specs.declared.capture.Found.the-variants.{At, Nowhere}

@@ -5,7 +5,7 @@ use mathlib.Core.List.{List, [], _∷_}
 use lib.Dec.{ltb}
 use lib.Bits.{bitXor}
 use lib.ListN.{getD}
-use Rattle.blheli_telemetry.specs.Choice.{pick}
+use Rattle.base.specs.Choice.{pick}
 
 -- one bit: the register goes left, and takes the polynomial where the bit that leaves it was set
 unfoldable pub crcBit : ℕ → ℕ

@@ -1,6 +1,3 @@
-pub mod Choice
-pub mod Reply
-pub mod BigEndian
 pub mod Crc
 pub mod Frame
 pub mod Parser

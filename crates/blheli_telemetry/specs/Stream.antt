@@ -3,8 +3,8 @@ use Prim.Native.Nat.{ℕ, min}
 use mathlib.Core.List.{List, [], _∷_, _++_}
 use lib.Dec.{ltb}
 use lib.ListN.{length, take, drop}
-use Rattle.blheli_telemetry.specs.Choice.{pick}
-use Rattle.blheli_telemetry.specs.Reply.{Reply, accepted, refused}
+use Rattle.base.specs.Choice.{pick}
+use Rattle.base.specs.Reply.{Reply, accepted, refused}
 use Rattle.blheli_telemetry.specs.Frame.{readFrame}
 use Rattle.blheli_telemetry.specs.Parser.{countedGood, countedBad, pushOf}
 use Rattle.blheli_telemetry.specs.declared.frame.EscTelemetry.{EscTelemetry}

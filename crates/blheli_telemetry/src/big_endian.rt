@@ -2,7 +2,7 @@
 ghost use mathlib.Core.Path.{_≡_};
 ghost use Prim.Native.Nat.{_+_, _*_, _≤_};
 ghost use lib.ListN.{length};
-ghost use Rattle.blheli_telemetry.specs.BigEndian.{numberAt, bytesOf, overwrite};
+ghost use Rattle.base.specs.BigEndian.{numberAt, bytesOf, overwrite};
 
 pub(crate) fn be16_at(bytes: &[u8], at: usize) -> u16
     requires { ⌜ at + 2 ≤ length (now bytes) ⌝ }

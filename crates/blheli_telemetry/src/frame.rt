@@ -3,7 +3,7 @@
 ghost use mathlib.Core.Path.{_≡_};
 ghost use Prim.Native.Nat.{_≤_};
 ghost use lib.ListN.{length};
-ghost use Rattle.blheli_telemetry.specs.BigEndian.{overwrite};
+ghost use Rattle.base.specs.BigEndian.{overwrite};
 ghost use Rattle.blheli_telemetry.specs.Frame.{telemetryOf, payloadOf, readFrame, writeReply, written, decoded, encoded};
 use crate::big_endian::be16_at;
 use crate::big_endian::put_be16;

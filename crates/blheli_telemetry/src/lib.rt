@@ -9,7 +9,6 @@ mod crc;
 mod crc_table;
 mod frame;
 mod parser;
-mod saturating;
 
 pub use capture::Found;
 pub use capture::find_frame;
@@ -24,4 +23,3 @@ pub use parser::Parsed;
 pub use parser::ParserStats;
 pub use parser::Pushed;
 pub use parser::StreamParser;
-pub use saturating::saturating_inc;

@@ -4,12 +4,12 @@
 // dropped and noisy bytes while memory and work stay bounded.
 ghost use mathlib.Core.Path.{_≡_};
 ghost use lib.Dec.{ltb};
-ghost use Rattle.blheli_telemetry.specs.Choice.{pick};
+ghost use Rattle.base.specs.Choice.{pick};
 ghost use Rattle.blheli_telemetry.specs.Parser.{newParser, countedGood, countedBad, shiftedDown, collected, pushOf, resetOf};
 use crate::frame::Decoded;
 use crate::frame::EscTelemetry;
 use crate::frame::decode;
-use crate::saturating::saturating_inc;
+use base::saturating_inc;
 
 pub struct ParserStats {
     pub valid_frames: u32,

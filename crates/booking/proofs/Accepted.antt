@@ -5,12 +5,12 @@ use mathlib.Core.Bool.{Bool, true, false, false≢true}
 use Prim.Native.Nat.{ℕ}
 use lib.Dec.{leb}
 use lib.ListN.{length}
-use Rattle.blheli_telemetry.specs.Choice.{pick}
-use Rattle.blheli_telemetry.specs.Reply.{Reply, accepted, refused, isAccepted}
-use Rattle.esc_unit.specs.Record.{readRecord}
-use Rattle.esc_unit.specs.Answer.{answerBytes}
-use Rattle.esc_unit.specs.declared.record.Record.{Record}
-use Rattle.esc_unit.specs.declared.answer.Answer.{Answer}
+use Rattle.base.specs.Choice.{pick}
+use Rattle.base.specs.Reply.{Reply, accepted, refused, isAccepted}
+use Rattle.esc_records.specs.Record.{readRecord}
+use Rattle.esc_records.specs.Answer.{answerBytes}
+use Rattle.esc_records.specs.declared.record.Record.{Record}
+use Rattle.esc_records.specs.declared.answer.Answer.{Answer}
 use Rattle.booking.specs.History.{since, Call}
 use Rattle.booking.specs.Rule.{replyTo, withRoom, replyOn, ruleFor}
 use Rattle.booking.specs.Run.{run}

@@ -7,10 +7,10 @@ use Rattle.esc_feedback.specs.declared.request.EscActuatorAck.{EscActuatorAck}
 use Rattle.esc_feedback.specs.declared.request.EscTelemetryUpdate.{EscTelemetryUpdate}
 use Rattle.esc_feedback.specs.declared.answer.EscManagerTimeout.{EscManagerTimeout}
 use Rattle.esc_feedback.specs.declared.answer.EscManagerTimeout.the-variants as timeout
-use Rattle.esc_unit.specs.declared.record.Record.{Record}
-use Rattle.esc_unit.specs.declared.record.Record.the-variants as kind
-use Rattle.esc_unit.specs.declared.answer.Answer.{Answer}
-use Rattle.esc_unit.specs.declared.answer.Answer.the-variants as answer
+use Rattle.esc_records.specs.declared.record.Record.{Record}
+use Rattle.esc_records.specs.declared.record.Record.the-variants as kind
+use Rattle.esc_records.specs.declared.answer.Answer.{Answer}
+use Rattle.esc_records.specs.declared.answer.Answer.the-variants as answer
 use Rattle.booking.specs.History.{Opening, Check, Seen, seen, saidBy, Past}
 use Rattle.booking.specs.Wire.{Frame, wire, frameAt, timed}
 use Rattle.booking.specs.Booking.{bookedTo, newlyStarted, startedRequest, latestFrame}

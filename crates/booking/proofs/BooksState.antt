@@ -8,7 +8,7 @@ use native.Mathlib.Omega.{arith}
 use lib.Dec.{eqb}
 use lib.ListN.{length}
 use borrow.Author.Tests.{ne-eqb, eqb-true}
-use Rattle.blheli_telemetry.specs.Choice.{pick}
+use Rattle.base.specs.Choice.{pick}
 use Rattle.esc_feedback.specs.Output.{laneOf, laneNumber}
 use Rattle.esc_feedback.specs.Samples.{slotOf, noSamples, storedIn, sampleAt}
 use Rattle.esc_feedback.specs.declared.output.Lane.{Lane}
@@ -21,7 +21,7 @@ use Rattle.esc_feedback.specs.declared.samples.EscSamples.{EscSamples}
 use Rattle.esc_unit.specs.Figures.{noFigure, withSample, figureAt, figuresWith}
 use Rattle.esc_unit.specs.Books.{noBooks, checkedBy, samplesDropped, bookedIn, idleStatus, sampleOf, storedAt}
 use Rattle.esc_unit.specs.declared.figures.Figures.{Figures}
-use Rattle.esc_unit.specs.declared.answer.StoredAnswer.the-variants as storedAnswer
+use Rattle.esc_records.specs.declared.answer.StoredAnswer.the-variants as storedAnswer
 use Rattle.esc_unit.specs.declared.books.Books.{Books}
 use Rattle.esc_unit.specs.declared.books.Booked.{Booked}
 use Rattle.booking.specs.History.{Check, Seen, Past}

@@ -7,15 +7,15 @@ use Prim.Native.Nat.{ℕ}
 use lib.ListN.{replicate}
 use Rattle.blheli_telemetry.specs.Crc.{crcBit, crcBits, crcByte, crcFrom, crcOf}
 use Rattle.blheli_telemetry.proofs.Cases.{FrameCases, frame-cases}
-use Rattle.esc_feedback.specs.Due.{due}
+use Rattle.base.specs.Due.{due}
 use Rattle.esc_feedback.specs.declared.output.Lane.the-variants.{Output1}
 use Rattle.esc_feedback.specs.declared.request.EscTelemetryUpdate.{EscTelemetryUpdate}
-use Rattle.esc_feedback.specs.declared.idle_config.EscIdleQualificationConfig.{EscIdleQualificationConfig}
-use Rattle.esc_feedback.specs.declared.idle_verdict.EscIdleQualificationFailure.the-variants.{Overspeed}
-use Rattle.esc_feedback.specs.declared.idle_verdict.EscIdleQualificationStatus.{EscIdleQualificationStatus}
-use Rattle.esc_feedback.specs.declared.idle_verdict.EscIdleQualificationStatus.the-variants.{Pending, Failed}
+use Rattle.esc_idle.specs.declared.idle_config.EscIdleQualificationConfig.{EscIdleQualificationConfig}
+use Rattle.esc_idle.specs.declared.idle_verdict.EscIdleQualificationFailure.the-variants.{Overspeed}
+use Rattle.esc_idle.specs.declared.idle_verdict.EscIdleQualificationStatus.{EscIdleQualificationStatus}
+use Rattle.esc_idle.specs.declared.idle_verdict.EscIdleQualificationStatus.the-variants.{Pending, Failed}
 use Rattle.esc_feedback.proofs.Cases.{DueCases, due-cases}
-use Rattle.esc_feedback.proofs.IdleCases.{IdleCases, idle-cases}
+use Rattle.esc_idle.proofs.IdleCases.{IdleCases, idle-cases}
 use Rattle.airframe.proofs.Cases.{SpeedCases, speed-cases}
 use Rattle.booking.specs.Wire.{OnWire, byte, latest, frameAt}
 use Rattle.booking.specs.IdleRule.{expired, judgedAt}

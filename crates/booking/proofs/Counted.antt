@@ -10,12 +10,12 @@ use borrow.Author.Tests.{ltb-false}
 use lib.Dec.{eqb, ltb}
 use lib.ListN.{length, take, length-append}
 use lib.Seq.{take-append-le}
-use Rattle.blheli_telemetry.specs.Choice.{pick}
+use Rattle.base.specs.Choice.{pick}
 use Rattle.esc_feedback.specs.Output.{laneOf, laneNumber}
 use Rattle.esc_feedback.specs.declared.output.Lane.{Lane}
 use Rattle.esc_feedback.specs.declared.request.EscTelemetryUpdate.{EscTelemetryUpdate}
-use Rattle.esc_feedback.specs.declared.idle_config.EscIdleQualificationConfig.{EscIdleQualificationConfig}
-use Rattle.booking.specs.Maybe.{onlyIf}
+use Rattle.esc_idle.specs.declared.idle_config.EscIdleQualificationConfig.{EscIdleQualificationConfig}
+use Rattle.base.specs.Maybe.{onlyIf}
 use Rattle.booking.specs.History.{Check}
 use Rattle.booking.specs.IdleRule.{erpm, expired, pastGrace, fresh, joined, runAt, tally}
 use Rattle.booking.specs.Samples.{added}

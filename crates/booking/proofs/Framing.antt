@@ -9,14 +9,14 @@ use lib.ListN.{length, drop, length-append, length-drop}
 use lib.Seq.{drop-append-le, drop-drop, drop-length}
 use lib.Dec.{eqb, leb}
 use borrow.Author.Tests.{le-leb, lt-leb, eqb-true, eqb-false}
-use Rattle.blheli_telemetry.specs.Choice.{pick}
+use Rattle.base.specs.Choice.{pick}
 use Rattle.blheli_telemetry.specs.Crc.{crcOf}
 use Rattle.blheli_telemetry.specs.Parser.{saturated}
 use Rattle.blheli_telemetry.specs.Stream.{givenAfter, heldAfter, countedAfter}
 use Rattle.blheli_telemetry.specs.declared.parser.ParserStats.{ParserStats}
-use Rattle.blheli_telemetry.proofs.ByCases.{below-or-not}
+use Rattle.base.proofs.ByCases.{below-or-not}
 use Rattle.blheli_telemetry.proofs.StreamLaws.{few-held, frame-end, wrong-check}
-use Rattle.booking.specs.Maybe.{is}
+use Rattle.base.specs.Maybe.{is}
 use Rattle.booking.specs.Wire.{OnWire, byte, cut, oneMore, latest, frameAt, parsed}
 
 -- the last n of a list, if it has so many

@@ -7,27 +7,27 @@ use Prim.Native.Nat.{ℕ, suc, _+_, _-_, min}
 use native.Mathlib.Omega.{arith}
 use lib.Dec.{leb, ltb}
 use lib.ListN.{length}
-use Rattle.blheli_telemetry.specs.Choice.{pick}
-use Rattle.esc_feedback.specs.Due.{due}
-use Rattle.esc_feedback.specs.IdleConfig.{validSettings}
-use Rattle.esc_feedback.specs.IdleLane.{clearLane, countLane, expired as unitExpired, expireLane, expireLanes, everyEnough}
-use Rattle.esc_feedback.specs.Idle.{newIdle, answered, decided, freshAt, weighed as unitWeighed, statusOf, sampled, measured, observeOf}
+use Rattle.base.specs.Choice.{pick}
+use Rattle.base.specs.Due.{due}
+use Rattle.esc_idle.specs.IdleConfig.{validSettings}
+use Rattle.esc_idle.specs.IdleLane.{clearLane, countLane, expired as unitExpired, expireLane, expireLanes, everyEnough}
+use Rattle.esc_idle.specs.Idle.{newIdle, answered, decided, freshAt, weighed as unitWeighed, statusOf, sampled, measured, observeOf}
 use Rattle.esc_feedback.specs.declared.output.Lane.{Lane}
 use Rattle.esc_feedback.specs.declared.output.Lane.the-variants.{Output1, Output2, Output3, Output4}
 use Rattle.esc_feedback.specs.declared.request.EscTelemetryUpdate.{EscTelemetryUpdate}
-use Rattle.esc_feedback.specs.declared.idle_config.EscIdleQualificationConfig.{EscIdleQualificationConfig}
-use Rattle.esc_feedback.specs.declared.idle_lane.Newest.{Newest}
-use Rattle.esc_feedback.specs.declared.idle_lane.Newest.the-variants as newest
-use Rattle.esc_feedback.specs.declared.idle_lane.IdleLane.{IdleLane}
-use Rattle.esc_feedback.specs.declared.idle_verdict.EscIdleQualificationFailure.the-variants.{InvalidConfig, Overspeed, Timeout}
-use Rattle.esc_feedback.specs.declared.idle_verdict.EscIdleQualificationStatus.{EscIdleQualificationStatus}
-use Rattle.esc_feedback.specs.declared.idle_verdict.EscIdleQualificationStatus.the-variants.{Pending, Qualified, Failed}
-use Rattle.esc_feedback.specs.declared.idle_verdict.Terminal.{Terminal}
-use Rattle.esc_feedback.specs.declared.idle_verdict.Terminal.the-variants as terminal
-use Rattle.esc_feedback.specs.declared.idle.EscIdleQualification.{EscIdleQualification}
-use Rattle.esc_feedback.specs.declared.idle.EscIdleJudged.{EscIdleJudged}
-use Rattle.esc_unit.specs.declared.answer.IdleAnswer.the-variants.{NoCheck, Status}
-use Rattle.booking.specs.Maybe.{earliest}
+use Rattle.esc_idle.specs.declared.idle_config.EscIdleQualificationConfig.{EscIdleQualificationConfig}
+use Rattle.esc_idle.specs.declared.idle_lane.Newest.{Newest}
+use Rattle.esc_idle.specs.declared.idle_lane.Newest.the-variants as newest
+use Rattle.esc_idle.specs.declared.idle_lane.IdleLane.{IdleLane}
+use Rattle.esc_idle.specs.declared.idle_verdict.EscIdleQualificationFailure.the-variants.{InvalidConfig, Overspeed, Timeout}
+use Rattle.esc_idle.specs.declared.idle_verdict.EscIdleQualificationStatus.{EscIdleQualificationStatus}
+use Rattle.esc_idle.specs.declared.idle_verdict.EscIdleQualificationStatus.the-variants.{Pending, Qualified, Failed}
+use Rattle.esc_idle.specs.declared.idle_verdict.Terminal.{Terminal}
+use Rattle.esc_idle.specs.declared.idle_verdict.Terminal.the-variants as terminal
+use Rattle.esc_idle.specs.declared.idle.EscIdleQualification.{EscIdleQualification}
+use Rattle.esc_idle.specs.declared.idle.EscIdleJudged.{EscIdleJudged}
+use Rattle.esc_records.specs.declared.answer.IdleAnswer.the-variants.{NoCheck, Status}
+use Rattle.base.specs.Maybe.{earliest}
 use Rattle.booking.specs.History.{Check, Seen, Past}
 use Rattle.booking.specs.IdleRule.{check, verdictIn, verdict, valid, erpm, expired, pastGrace, fresh, joined, runAt, run, tally, settled, judgedAt, judged}
 use Rattle.booking.proofs.Lanes.{four, change-kept}

@@ -5,7 +5,7 @@ use mathlib.Core.List.{List, [], _∷_}
 use Prim.Native.Nat.{ℕ}
 use lib.Dec.{eqb}
 use lib.ListN.{getD, set}
-use Rattle.blheli_telemetry.specs.Choice.{pick}
+use Rattle.base.specs.Choice.{pick}
 use Rattle.esc_feedback.specs.Output.{laneNumber}
 use Rattle.esc_feedback.specs.declared.output.Lane.{Lane}
 use Rattle.esc_feedback.specs.declared.output.Lane.the-variants.{Output1, Output2, Output3, Output4}

@@ -6,18 +6,18 @@ use mathlib.Core.Bool.{true}
 use mathlib.Core.Option.{Option, none, some}
 use Prim.Native.Nat.{ℕ, _+_}
 use lib.ListN.{replicate}
-use Rattle.blheli_telemetry.specs.Reply.{Reply, accepted, refused}
-use Rattle.blheli_telemetry.specs.BigEndian.{numberAt, bytesOf}
+use Rattle.base.specs.Reply.{Reply, accepted, refused}
+use Rattle.base.specs.BigEndian.{numberAt, bytesOf}
 use Rattle.blheli_telemetry.specs.Crc.{crcBit, crcBits, crcByte, crcFrom, crcOf}
 use Rattle.blheli_telemetry.specs.Frame.{telemetryOf, payloadOf}
-use Rattle.esc_feedback.specs.Due.{due}
+use Rattle.base.specs.Due.{due}
 use Rattle.esc_feedback.specs.Output.{laneOf}
 use Rattle.esc_feedback.specs.declared.request.EscTelemetryUpdate.{EscTelemetryUpdate}
 use Rattle.esc_feedback.specs.declared.stats.EscManagerStats.{EscManagerStats}
-use Rattle.esc_unit.specs.Record.{recordOf, readRecord}
-use Rattle.esc_unit.specs.Answer.{requestBytes, sampleBytes, deliveredBytes, failureBytes, idleBytes, nextBytes, ackBytes, wireBytes, timeoutBytes, bodyBytes, answerBytes}
-use Rattle.esc_unit.specs.declared.answer.Answer.{Answer}
-use Rattle.booking.specs.Maybe.{is}
+use Rattle.esc_records.specs.Record.{recordOf, readRecord}
+use Rattle.esc_records.specs.Answer.{requestBytes, sampleBytes, deliveredBytes, failureBytes, idleBytes, nextBytes, ackBytes, wireBytes, timeoutBytes, bodyBytes, answerBytes}
+use Rattle.esc_records.specs.declared.answer.Answer.{Answer}
+use Rattle.base.specs.Maybe.{is}
 use Rattle.booking.specs.History.{Past, History, saidBy, updateIn, since}
 use Rattle.booking.specs.Wire.{wire, latest, frameAt}
 use Rattle.booking.specs.Booking.{openRequest, startedAt, latestFrame, newlyStarted, startedRequest}

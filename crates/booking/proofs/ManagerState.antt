@@ -7,7 +7,7 @@ use Prim.Native.Nat.{ℕ, max}
 use lib.Dec.{eqb}
 use lib.ListN.{length}
 use borrow.Author.Tests.{eqb-true, eqb-false, eq-eqb, ne-eqb}
-use Rattle.blheli_telemetry.specs.Choice.{pick}
+use Rattle.base.specs.Choice.{pick}
 use Rattle.blheli_telemetry.specs.Parser.{pushOf, resetOf, newParser}
 use Rattle.blheli_telemetry.specs.Stream.{held}
 use Rattle.blheli_telemetry.specs.declared.parser.ParserStats.{ParserStats}
@@ -31,7 +31,7 @@ use Rattle.esc_feedback.specs.declared.line.PendingRequest.{PendingRequest}
 use Rattle.esc_feedback.specs.declared.line.PendingRequest.the-variants as pending
 use Rattle.esc_feedback.specs.declared.line.Line.{Line}
 use Rattle.esc_feedback.specs.declared.manager.EscManager.{EscManager}
-use Rattle.booking.specs.Maybe.{is}
+use Rattle.base.specs.Maybe.{is}
 use Rattle.booking.specs.History.{Opening, Timed, Requests, Wire, Idle, Seen, Past}
 use Rattle.booking.specs.Wire.{Frame, timed, wire, frameAt, parsed}
 use Rattle.booking.specs.Booking.{equal, booked, openRequest, startedAt, latestFrame}

@@ -6,10 +6,10 @@ use mathlib.Core.Bool.{Bool, true, false, not, _&&_, false≢true}
 use Prim.Native.Nat.{ℕ}
 use lib.Dec.{eqb}
 use borrow.Author.Tests.{eqb-true}
-use Rattle.blheli_telemetry.specs.Choice.{pick}
+use Rattle.base.specs.Choice.{pick}
 use Rattle.blheli_telemetry.specs.Parser.{pushOf, resetOf}
 use Rattle.blheli_telemetry.specs.declared.parser.StreamParser.{StreamParser}
-use Rattle.esc_feedback.specs.Due.{due}
+use Rattle.base.specs.Due.{due}
 use Rattle.esc_feedback.specs.Output.{laneOf, laneAfter}
 use Rattle.esc_feedback.specs.Line.{isOpen}
 use Rattle.esc_feedback.specs.Turn.{periodDue}
@@ -33,7 +33,7 @@ use Rattle.esc_feedback.specs.declared.answer.EscManagerTimeout.the-variants as
 use Rattle.esc_feedback.specs.declared.answer.WireUpdate.{WireUpdate}
 use Rattle.esc_feedback.specs.declared.answer.WireUpdate.the-variants as update
 use Rattle.esc_feedback.specs.declared.manager.EscManager.{EscManager}
-use Rattle.booking.specs.Maybe.{is, earliest, onlyIf}
+use Rattle.base.specs.Maybe.{is, earliest, onlyIf}
 use Rattle.booking.specs.History.{Opening, Timed, Requests, Wire, Idle, Past}
 use Rattle.booking.specs.Wire.{Frame, timed, wire, frameAt}
 use Rattle.booking.specs.Booking.{equal, booked, bookedTo, openRequest, startedAt, latestFrame, newlyStarted, startedRequest}

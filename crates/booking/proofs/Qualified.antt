@@ -8,20 +8,20 @@ use native.Mathlib.Omega.{arith}
 use borrow.Author.Tests.{leb-true, ltb-true}
 use lib.Dec.{leb, ltb}
 use lib.ListN.{length}
-use Rattle.blheli_telemetry.specs.Choice.{pick}
-use Rattle.blheli_telemetry.specs.Reply.{accepted, refused}
-use Rattle.esc_feedback.specs.Due.{due}
+use Rattle.base.specs.Choice.{pick}
+use Rattle.base.specs.Reply.{accepted, refused}
+use Rattle.base.specs.Due.{due}
 use Rattle.esc_feedback.specs.declared.output.Lane.{Lane}
 use Rattle.esc_feedback.specs.declared.output.Lane.the-variants.{Output1, Output2, Output3, Output4}
 use Rattle.esc_feedback.specs.declared.request.EscTelemetryUpdate.{EscTelemetryUpdate}
-use Rattle.esc_feedback.specs.declared.idle_verdict.EscIdleQualificationFailure.the-variants.{InvalidConfig, Overspeed, Timeout}
-use Rattle.esc_feedback.specs.declared.idle_verdict.EscIdleQualificationStatus.{EscIdleQualificationStatus}
-use Rattle.esc_feedback.specs.declared.idle_verdict.EscIdleQualificationStatus.the-variants.{Pending, Qualified, Failed}
-use Rattle.esc_unit.specs.Record.{readRecord}
-use Rattle.esc_unit.specs.Answer.{answerBytes}
-use Rattle.esc_unit.specs.declared.record.Record.{Record}
-use Rattle.esc_unit.specs.declared.answer.Answer.{Answer}
-use Rattle.esc_unit.specs.declared.answer.IdleAnswer.the-variants.{NoCheck, Status}
+use Rattle.esc_idle.specs.declared.idle_verdict.EscIdleQualificationFailure.the-variants.{InvalidConfig, Overspeed, Timeout}
+use Rattle.esc_idle.specs.declared.idle_verdict.EscIdleQualificationStatus.{EscIdleQualificationStatus}
+use Rattle.esc_idle.specs.declared.idle_verdict.EscIdleQualificationStatus.the-variants.{Pending, Qualified, Failed}
+use Rattle.esc_records.specs.Record.{readRecord}
+use Rattle.esc_records.specs.Answer.{answerBytes}
+use Rattle.esc_records.specs.declared.record.Record.{Record}
+use Rattle.esc_records.specs.declared.answer.Answer.{Answer}
+use Rattle.esc_records.specs.declared.answer.IdleAnswer.the-variants.{NoCheck, Status}
 use Rattle.booking.specs.History.{Call, Check, Seen, seen, saidBy, Past, Since, since}
 use Rattle.booking.specs.IdleRule.{check, verdict, valid, pastGrace, erpm, fresh, joined, runAt, run as laneRun, tally, settled, judgedAt}
 use Rattle.booking.specs.Rule.{answerTo, withRoom, ruleFor}

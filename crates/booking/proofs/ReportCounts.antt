@@ -2,13 +2,13 @@
 use mathlib.Core.Path.{_≡_, refl, sym, _∙_, ap, subst}
 use mathlib.Core.Option.{Option, none, some}
 use mathlib.Core.Bool.{Bool, true, false, false≢true}
-use Rattle.blheli_telemetry.specs.Reply.{Reply, accepted, refused}
-use Rattle.esc_unit.specs.Record.{readRecord}
-use Rattle.esc_unit.specs.declared.record.Record.{Record}
-use Rattle.esc_unit.specs.declared.record.Record.the-variants as kind
-use Rattle.esc_unit.specs.declared.answer.UnitReport.{UnitReport}
-use Rattle.esc_unit.specs.declared.answer.Answer.{Answer}
-use Rattle.esc_unit.specs.declared.answer.Answer.the-variants as answer
+use Rattle.base.specs.Reply.{Reply, accepted, refused}
+use Rattle.esc_records.specs.Record.{readRecord}
+use Rattle.esc_records.specs.declared.record.Record.{Record}
+use Rattle.esc_records.specs.declared.record.Record.the-variants as kind
+use Rattle.esc_records.specs.declared.answer.UnitReport.{UnitReport}
+use Rattle.esc_records.specs.declared.answer.Answer.{Answer}
+use Rattle.esc_records.specs.declared.answer.Answer.the-variants as answer
 use Rattle.booking.specs.History.{Opening, Past, Since, since}
 use Rattle.booking.specs.Counts.{reportOf}
 use Rattle.booking.specs.Rule.{answerTo, replyTo}

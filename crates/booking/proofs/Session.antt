@@ -2,10 +2,10 @@
 use mathlib.Core.Path.{_≡_, refl}
 use mathlib.Core.List.{List, [], _∷_, map, reverse}
 use Prim.Native.Nat.{ℕ}
-use Rattle.blheli_telemetry.specs.BigEndian.{numberAt, bytesOf}
-use Rattle.esc_feedback.specs.Due.{due}
-use Rattle.esc_unit.specs.Record.{recordOf, readRecord}
-use Rattle.esc_unit.specs.Answer.{requestBytes, nextBytes, timeoutBytes, bodyBytes, answerBytes, replyBytes}
+use Rattle.base.specs.BigEndian.{numberAt, bytesOf}
+use Rattle.base.specs.Due.{due}
+use Rattle.esc_records.specs.Record.{recordOf, readRecord}
+use Rattle.esc_records.specs.Answer.{requestBytes, nextBytes, timeoutBytes, bodyBytes, answerBytes, replyBytes}
 use Rattle.booking.specs.History.{Call, Event, since}
 use Rattle.booking.specs.Wire.{wire, latest, frameAt}
 use Rattle.booking.specs.Booking.{openRequest, startedAt}

@@ -5,15 +5,15 @@ use mathlib.Core.Option.{Option, none, some, Option·none-ne-some}
 use mathlib.Core.Bool.{Bool, true, false, _&&_, true≢false}
 use Prim.Native.Nat.{ℕ}
 use lib.Dec.{ltb}
-use Rattle.blheli_telemetry.specs.Choice.{pick}
+use Rattle.base.specs.Choice.{pick}
 use Rattle.esc_feedback.specs.declared.output.Lane.{Lane}
 use Rattle.esc_feedback.specs.declared.request.EscTelemetryUpdate.{EscTelemetryUpdate}
-use Rattle.esc_feedback.specs.declared.idle_verdict.EscIdleQualificationFailure.the-variants.{InvalidConfig, Overspeed}
-use Rattle.esc_feedback.specs.declared.idle_verdict.EscIdleQualificationStatus.{EscIdleQualificationStatus}
-use Rattle.esc_feedback.specs.declared.idle_verdict.EscIdleQualificationStatus.the-variants.{Pending, Qualified, Failed}
-use Rattle.esc_unit.specs.declared.answer.IdleAnswer.{IdleAnswer}
-use Rattle.esc_unit.specs.declared.answer.IdleAnswer.the-variants.{NoCheck, Status}
-use Rattle.booking.specs.Maybe.{earliest}
+use Rattle.esc_idle.specs.declared.idle_verdict.EscIdleQualificationFailure.the-variants.{InvalidConfig, Overspeed}
+use Rattle.esc_idle.specs.declared.idle_verdict.EscIdleQualificationStatus.{EscIdleQualificationStatus}
+use Rattle.esc_idle.specs.declared.idle_verdict.EscIdleQualificationStatus.the-variants.{Pending, Qualified, Failed}
+use Rattle.esc_records.specs.declared.answer.IdleAnswer.{IdleAnswer}
+use Rattle.esc_records.specs.declared.answer.IdleAnswer.the-variants.{NoCheck, Status}
+use Rattle.base.specs.Maybe.{earliest}
 use Rattle.booking.specs.History.{Opening, Check, Seen, seen, Past}
 use Rattle.booking.specs.IdleRule.{check, verdictIn, verdict, valid, pastGrace, erpm, runAt, run as laneRun, settled, judgedAt, judged}
 use Rattle.booking.specs.Rule.{answerTo}

@@ -4,7 +4,7 @@ use mathlib.Core.List.{[], _∷_}
 use mathlib.Core.Option.{Option, none, some, Option·none-ne-some}
 use mathlib.Core.Bool.{Bool, true, false, _||_, true≢false, false≢true}
 use Prim.Native.Nat.{ℕ}
-use Rattle.blheli_telemetry.specs.Choice.{pick}
+use Rattle.base.specs.Choice.{pick}
 use Rattle.blheli_telemetry.specs.Parser.{pushOf, resetOf, newParser}
 use Rattle.blheli_telemetry.specs.declared.parser.StreamParser.{StreamParser}
 use Rattle.esc_feedback.specs.Manager.{newManager}
@@ -16,17 +16,17 @@ use Rattle.esc_feedback.specs.declared.answer.EscManagerTimeout.the-variants as
 use Rattle.esc_feedback.specs.declared.manager.EscManager.{EscManager}
 use Rattle.esc_unit.specs.Books.{noBooks, bookedIn, idleStatus}
 use Rattle.esc_unit.specs.Unit.{unitOf, stepped, ackedOn, receivedOn, recoveredOn, reportOf as unitReport, stepOf, opens}
-use Rattle.esc_unit.specs.declared.record.Record.{Record}
-use Rattle.esc_unit.specs.declared.record.Record.the-variants as kind
-use Rattle.esc_unit.specs.declared.answer.IdleAnswer.{IdleAnswer}
-use Rattle.esc_unit.specs.declared.answer.AckAnswer.the-variants as ack
-use Rattle.esc_unit.specs.declared.answer.WireAnswer.the-variants as wireAnswer
-use Rattle.esc_unit.specs.declared.answer.Answer.{Answer}
-use Rattle.esc_unit.specs.declared.answer.Answer.the-variants as answer
+use Rattle.esc_records.specs.declared.record.Record.{Record}
+use Rattle.esc_records.specs.declared.record.Record.the-variants as kind
+use Rattle.esc_records.specs.declared.answer.IdleAnswer.{IdleAnswer}
+use Rattle.esc_records.specs.declared.answer.AckAnswer.the-variants as ack
+use Rattle.esc_records.specs.declared.answer.WireAnswer.the-variants as wireAnswer
+use Rattle.esc_records.specs.declared.answer.Answer.{Answer}
+use Rattle.esc_records.specs.declared.answer.Answer.the-variants as answer
 use Rattle.esc_unit.specs.declared.books.Books.{Books}
 use Rattle.esc_unit.specs.declared.unit.Unit.{Unit}
 use Rattle.esc_unit.specs.declared.unit.Stepped.{Stepped}
-use Rattle.booking.specs.Maybe.{is, orElse, onlyIf}
+use Rattle.base.specs.Maybe.{is, orElse, onlyIf}
 use Rattle.booking.specs.History.{Opening, Timed, Wire, Idle, Seen, seen, Past}
 use Rattle.booking.specs.Wire.{Frame}
 use Rattle.booking.specs.Booking.{booked, bookedTo, openRequest, latestFrame, newlyStarted}

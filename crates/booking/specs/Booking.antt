@@ -4,12 +4,12 @@ use mathlib.Core.Bool.{Bool, not, _&&_, _||_}
 use mathlib.Core.List.{[], _∷_}
 use mathlib.Core.Option.{Option, none, some}
 use lib.Dec.{eqb}
-use Rattle.blheli_telemetry.specs.Choice.{pick}
+use Rattle.base.specs.Choice.{pick}
 use Rattle.blheli_telemetry.specs.Frame.{telemetryOf}
 use Rattle.esc_feedback.specs.Output.{laneOf}
 use Rattle.esc_feedback.specs.declared.request.EscActuatorRequest.{EscActuatorRequest}
 use Rattle.esc_feedback.specs.declared.request.EscTelemetryUpdate.{EscTelemetryUpdate}
-use Rattle.booking.specs.Maybe.{is, orElse, earliest, onlyIf}
+use Rattle.base.specs.Maybe.{is, orElse, earliest, onlyIf}
 use Rattle.booking.specs.History.{Timed, Past}
 use Rattle.booking.specs.Wire.{Frame, wire, frameIn}
 

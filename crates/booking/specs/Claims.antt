@@ -8,18 +8,18 @@ use Prim.Native.Nat.{ℕ, _+_, _%_, _^_}
 use mathlib.Core.Path.{_≡_}
 use mathlib.Core.List.{List, [], _∷_, _++_}
 use mathlib.Core.Option.{Option, none, some}
-use Rattle.blheli_telemetry.specs.Reply.{Reply, accepted, refused}
+use Rattle.base.specs.Reply.{Reply, accepted, refused}
 use Rattle.blheli_telemetry.specs.Parser.{pushOf}
 use Rattle.esc_feedback.specs.declared.request.EscTelemetryUpdate.{EscTelemetryUpdate}
-use Rattle.esc_unit.specs.Record.{readRecord}
+use Rattle.esc_records.specs.Record.{readRecord}
 use Rattle.esc_unit.specs.Unit.{callOf, outputAfter}
-use Rattle.esc_unit.specs.declared.record.Record.{Record}
-use Rattle.esc_unit.specs.declared.record.Record.the-variants as kind
-use Rattle.esc_unit.specs.declared.answer.UnitReport.{UnitReport}
-use Rattle.esc_unit.specs.declared.answer.Answer.{Answer}
-use Rattle.esc_unit.specs.declared.answer.Answer.the-variants as answer
+use Rattle.esc_records.specs.declared.record.Record.{Record}
+use Rattle.esc_records.specs.declared.record.Record.the-variants as kind
+use Rattle.esc_records.specs.declared.answer.UnitReport.{UnitReport}
+use Rattle.esc_records.specs.declared.answer.Answer.{Answer}
+use Rattle.esc_records.specs.declared.answer.Answer.the-variants as answer
 use Rattle.esc_unit.specs.declared.unit.Unit.{Unit}
-use Rattle.booking.specs.Maybe.{is}
+use Rattle.base.specs.Maybe.{is}
 use Rattle.booking.specs.History.{Past, Since, since, seen, Call}
 use Rattle.booking.specs.Wire.{OnWire, cut, wire, frameAt, timed, parsed}
 use Rattle.booking.specs.Booking.{bookedTo, openRequest, latestFrame, newlyStarted, startedRequest}

@@ -4,11 +4,11 @@ use mathlib.Core.Bool.{Bool, true, false, not, _&&_, _||_}
 use mathlib.Core.List.{[], _∷_}
 use mathlib.Core.Option.{Option, none, some}
 use lib.Dec.{eqb}
-use Rattle.blheli_telemetry.specs.Choice.{pick}
+use Rattle.base.specs.Choice.{pick}
 use Rattle.esc_feedback.specs.declared.answer.EscManagerTimeout.{EscManagerTimeout}
 use Rattle.esc_feedback.specs.declared.answer.EscManagerTimeout.the-variants.{None, ActuatorAck, TelemetryResponse}
-use Rattle.esc_unit.specs.declared.answer.UnitReport.{UnitReport}
-use Rattle.booking.specs.Maybe.{is}
+use Rattle.esc_records.specs.declared.answer.UnitReport.{UnitReport}
+use Rattle.base.specs.Maybe.{is}
 use Rattle.booking.specs.History.{Seen, Past}
 use Rattle.booking.specs.Wire.{wire, frameIn, wrongIn}
 use Rattle.booking.specs.Booking.{openRequest}

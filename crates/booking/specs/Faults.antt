@@ -4,11 +4,11 @@ use mathlib.Core.Bool.{Bool, true, false, not, _&&_}
 use mathlib.Core.List.{[], _∷_}
 use mathlib.Core.Option.{Option, none, some}
 use lib.Dec.{eqb, leb}
-use Rattle.blheli_telemetry.specs.Choice.{pick}
-use Rattle.esc_feedback.specs.Due.{due}
+use Rattle.base.specs.Choice.{pick}
+use Rattle.base.specs.Due.{due}
 use Rattle.esc_feedback.specs.declared.answer.EscManagerTimeout.{EscManagerTimeout}
 use Rattle.esc_feedback.specs.declared.answer.EscManagerTimeout.the-variants.{None, ActuatorAck, TelemetryResponse}
-use Rattle.booking.specs.Maybe.{is, onlyIf}
+use Rattle.base.specs.Maybe.{is, onlyIf}
 use Rattle.booking.specs.History.{Opening, Timed, Byte, Past}
 use Rattle.booking.specs.Booking.{openRequest, startedAt}
 

@@ -3,24 +3,24 @@ use Prim.Native.Nat.{ℕ}
 use mathlib.Core.Bool.{Bool, true, false}
 use mathlib.Core.List.{List, [], _∷_}
 use mathlib.Core.Option.{Option, none, some}
-use Rattle.blheli_telemetry.specs.Reply.{Reply, accepted, refused}
+use Rattle.base.specs.Reply.{Reply, accepted, refused}
 use Rattle.esc_feedback.specs.declared.config.EscManagerConfig.{EscManagerConfig}
-use Rattle.esc_feedback.specs.declared.idle_config.EscIdleQualificationConfig.{EscIdleQualificationConfig}
+use Rattle.esc_idle.specs.declared.idle_config.EscIdleQualificationConfig.{EscIdleQualificationConfig}
 use Rattle.esc_feedback.specs.declared.request.EscActuatorRequest.{EscActuatorRequest}
 use Rattle.esc_feedback.specs.declared.request.EscActuatorAck.{EscActuatorAck}
 use Rattle.esc_feedback.specs.declared.request.EscTelemetryUpdate.{EscTelemetryUpdate}
 use Rattle.esc_feedback.specs.declared.answer.EscManagerTimeout.{EscManagerTimeout}
 use Rattle.esc_feedback.specs.declared.answer.EscManagerTimeout.the-variants as timeout
-use Rattle.esc_unit.specs.Record.{readRecord}
-use Rattle.esc_unit.specs.declared.record.Record.{Record}
-use Rattle.esc_unit.specs.declared.record.Record.the-variants as kind
-use Rattle.esc_unit.specs.declared.answer.IdleAnswer.{IdleAnswer}
-use Rattle.esc_unit.specs.declared.answer.Delivered.{Delivered}
-use Rattle.esc_unit.specs.declared.answer.AckAnswer.the-variants as ack
-use Rattle.esc_unit.specs.declared.answer.WireAnswer.the-variants as wire
-use Rattle.esc_unit.specs.declared.answer.Answer.{Answer}
-use Rattle.esc_unit.specs.declared.answer.Answer.the-variants as answer
-use Rattle.booking.specs.Maybe.{onlyIf}
+use Rattle.esc_records.specs.Record.{readRecord}
+use Rattle.esc_records.specs.declared.record.Record.{Record}
+use Rattle.esc_records.specs.declared.record.Record.the-variants as kind
+use Rattle.esc_records.specs.declared.answer.IdleAnswer.{IdleAnswer}
+use Rattle.esc_records.specs.declared.answer.Delivered.{Delivered}
+use Rattle.esc_records.specs.declared.answer.AckAnswer.the-variants as ack
+use Rattle.esc_records.specs.declared.answer.WireAnswer.the-variants as wire
+use Rattle.esc_records.specs.declared.answer.Answer.{Answer}
+use Rattle.esc_records.specs.declared.answer.Answer.the-variants as answer
+use Rattle.base.specs.Maybe.{onlyIf}
 
 -- a call: a record's bytes, and how much output is lent for its answer
 pub record Call : Type 0 where

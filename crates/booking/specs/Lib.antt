@@ -1,4 +1,3 @@
-pub mod Maybe
 pub mod History
 pub mod Wire
 pub mod Booking

@@ -6,18 +6,18 @@ use mathlib.Core.Bool.{Bool, false, not, _&&_}
 use mathlib.Core.List.{List, [], _∷_, List·Memᴰ}
 use mathlib.Core.Option.{Option, none, some}
 use lib.ListN.{length, take}
-use Rattle.blheli_telemetry.specs.Choice.{pick}
-use Rattle.blheli_telemetry.specs.Reply.{accepted}
+use Rattle.base.specs.Choice.{pick}
+use Rattle.base.specs.Reply.{accepted}
 use Rattle.esc_feedback.specs.declared.output.Lane.{Lane}
 use Rattle.esc_feedback.specs.declared.request.EscTelemetryUpdate.{EscTelemetryUpdate}
-use Rattle.esc_feedback.specs.declared.idle_config.EscIdleQualificationConfig.{EscIdleQualificationConfig}
-use Rattle.esc_feedback.specs.declared.idle_verdict.EscIdleQualificationStatus.the-variants.{Qualified}
-use Rattle.esc_unit.specs.Record.{readRecord}
+use Rattle.esc_idle.specs.declared.idle_config.EscIdleQualificationConfig.{EscIdleQualificationConfig}
+use Rattle.esc_idle.specs.declared.idle_verdict.EscIdleQualificationStatus.the-variants.{Qualified}
+use Rattle.esc_records.specs.Record.{readRecord}
 use Rattle.esc_unit.specs.Unit.{callOf}
-use Rattle.esc_unit.specs.declared.record.Record.{Record}
-use Rattle.esc_unit.specs.declared.answer.Answer.{Answer}
-use Rattle.esc_unit.specs.declared.answer.IdleAnswer.the-variants.{Status}
-use Rattle.booking.specs.Maybe.{is, onlyIf}
+use Rattle.esc_records.specs.declared.record.Record.{Record}
+use Rattle.esc_records.specs.declared.answer.Answer.{Answer}
+use Rattle.esc_records.specs.declared.answer.IdleAnswer.the-variants.{Status}
+use Rattle.base.specs.Maybe.{is, onlyIf}
 use Rattle.booking.specs.History.{Call, Check, Seen, seen, saidBy, Past, Since, since}
 use Rattle.booking.specs.IdleRule.{check, verdict, erpm, expired, pastGrace}
 use Rattle.booking.specs.Samples.{added}

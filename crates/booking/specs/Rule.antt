@@ -4,27 +4,27 @@ use mathlib.Core.List.{List, [], _∷_}
 use mathlib.Core.Option.{Option, none, some}
 use lib.Dec.{leb}
 use lib.ListN.{length}
-use Rattle.blheli_telemetry.specs.Choice.{pick}
-use Rattle.blheli_telemetry.specs.Reply.{Reply, accepted, refused}
+use Rattle.base.specs.Choice.{pick}
+use Rattle.base.specs.Reply.{Reply, accepted, refused}
 use Rattle.esc_feedback.specs.declared.request.EscActuatorRequest.{EscActuatorRequest}
 use Rattle.esc_feedback.specs.declared.request.EscTelemetryUpdate.{EscTelemetryUpdate}
 use Rattle.esc_feedback.specs.declared.answer.NextRequest.{NextRequest}
 use Rattle.esc_feedback.specs.declared.answer.NextRequest.the-variants as next
 use Rattle.esc_feedback.specs.declared.answer.BackAfterRetries.{BackAfterRetries}
 use Rattle.esc_feedback.specs.declared.answer.BackAfterRetries.the-variants as back
-use Rattle.esc_unit.specs.Record.{readRecord}
-use Rattle.esc_unit.specs.Answer.{answerBytes}
-use Rattle.esc_unit.specs.declared.record.Record.{Record}
-use Rattle.esc_unit.specs.declared.record.Record.the-variants as kind
-use Rattle.esc_unit.specs.declared.answer.IdleAnswer.{IdleAnswer}
-use Rattle.esc_unit.specs.declared.answer.AckAnswer.{AckAnswer}
-use Rattle.esc_unit.specs.declared.answer.AckAnswer.the-variants as ack
-use Rattle.esc_unit.specs.declared.answer.WireAnswer.{WireAnswer}
-use Rattle.esc_unit.specs.declared.answer.WireAnswer.the-variants as wireAnswer
-use Rattle.esc_unit.specs.declared.answer.StoredAnswer.{StoredAnswer}
-use Rattle.esc_unit.specs.declared.answer.StoredAnswer.the-variants as storedAnswer
-use Rattle.esc_unit.specs.declared.answer.Answer.{Answer}
-use Rattle.esc_unit.specs.declared.answer.Answer.the-variants as answer
+use Rattle.esc_records.specs.Record.{readRecord}
+use Rattle.esc_records.specs.Answer.{answerBytes}
+use Rattle.esc_records.specs.declared.record.Record.{Record}
+use Rattle.esc_records.specs.declared.record.Record.the-variants as kind
+use Rattle.esc_records.specs.declared.answer.IdleAnswer.{IdleAnswer}
+use Rattle.esc_records.specs.declared.answer.AckAnswer.{AckAnswer}
+use Rattle.esc_records.specs.declared.answer.AckAnswer.the-variants as ack
+use Rattle.esc_records.specs.declared.answer.WireAnswer.{WireAnswer}
+use Rattle.esc_records.specs.declared.answer.WireAnswer.the-variants as wireAnswer
+use Rattle.esc_records.specs.declared.answer.StoredAnswer.{StoredAnswer}
+use Rattle.esc_records.specs.declared.answer.StoredAnswer.the-variants as storedAnswer
+use Rattle.esc_records.specs.declared.answer.Answer.{Answer}
+use Rattle.esc_records.specs.declared.answer.Answer.the-variants as answer
 use Rattle.booking.specs.History.{Opening, Past, Since, since, Call, History}
 use Rattle.booking.specs.Wire.{Frame, wire, frameAt, timed}
 use Rattle.booking.specs.Booking.{booked, bookedTo, newlyStarted, startedRequest, latestFrame}

@@ -5,12 +5,12 @@ use mathlib.Core.List.{List, [], _∷_}
 use mathlib.Core.Option.{Option, none, some}
 use lib.Dec.{eqb}
 use lib.ListN.{length}
-use Rattle.blheli_telemetry.specs.Choice.{pick}
+use Rattle.base.specs.Choice.{pick}
 use Rattle.esc_feedback.specs.Output.{laneOf, laneNumber}
 use Rattle.esc_feedback.specs.declared.output.Lane.{Lane}
 use Rattle.esc_feedback.specs.declared.request.EscTelemetryUpdate.{EscTelemetryUpdate}
 use Rattle.esc_unit.specs.declared.figures.Figure.{Figure}
-use Rattle.booking.specs.Maybe.{onlyIf}
+use Rattle.base.specs.Maybe.{onlyIf}
 use Rattle.booking.specs.History.{Past}
 
 abbrev newest : Option EscTelemetryUpdate → Lane → Option EscTelemetryUpdate → Option EscTelemetryUpdate

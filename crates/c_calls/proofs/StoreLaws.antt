@@ -4,8 +4,8 @@ use mathlib.Core.List.{List, [], _∷_, _++_}
 use Prim.Native.Nat.{ℕ, _+_, _≤_, _<_}
 use native.Mathlib.Omega.{arith}
 use lib.ListN.{length, set}
-use Rattle.blheli_telemetry.specs.BigEndian.{overwrite}
-use Rattle.blheli_telemetry.proofs.BigEndianLaws.{overwrite-set, overwrite-append, overwrite-length}
+use Rattle.base.specs.BigEndian.{overwrite}
+use Rattle.base.proofs.BigEndianLaws.{overwrite-set, overwrite-append, overwrite-length}
 
 one-more : (at n x : ℕ) (run s : List ℕ) → at + length run ≡ n → n < length s → set (overwrite at run s) n x ≡ overwrite at (run ++ x ∷ []) s
 one-more at n x run s e h =

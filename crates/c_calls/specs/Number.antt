@@ -1,6 +1,6 @@
 -- What a call for C answers: 0 where it is accepted, else document 01's number.
 use Prim.Native.Nat.{ℕ}
-use Rattle.blheli_telemetry.specs.Reply.{Reply, accepted, refused}
+use Rattle.base.specs.Reply.{Reply, accepted, refused}
 
 abbrev pub numberOf : {A : Type 0} → Reply A → ℕ
 numberOf (accepted a) = 0

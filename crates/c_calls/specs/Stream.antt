@@ -4,8 +4,8 @@ use mathlib.Core.Bool.{Bool, false}
 use mathlib.Core.List.{List, [], _∷_}
 use lib.Dec.{leb}
 use lib.ListN.{length, set}
-use Rattle.blheli_telemetry.specs.Choice.{pick}
-use Rattle.blheli_telemetry.specs.BigEndian.{overwrite}
+use Rattle.base.specs.Choice.{pick}
+use Rattle.base.specs.BigEndian.{overwrite}
 use Rattle.blheli_telemetry.specs.Parser.{newParser, pushOf}
 use Rattle.blheli_telemetry.specs.Stream.{parsedBy}
 use Rattle.blheli_telemetry.specs.declared.parser.Parsed.{Parsed}

@@ -3,7 +3,7 @@
 ghost use mathlib.Core.Path.{_≡_};
 ghost use Prim.Native.Nat.{_+_, _≤_};
 ghost use lib.ListN.{length};
-ghost use Rattle.blheli_telemetry.specs.BigEndian.{overwrite};
+ghost use Rattle.base.specs.BigEndian.{overwrite};
 ghost use Rattle.blheli_telemetry.specs.Frame.{writeReply, written};
 ghost use Rattle.c_calls.specs.Number.{numberOf};
 ghost use Rattle.c_calls.specs.Frame.{telemetryBy, fieldsOf, readNumber, fieldsRead};

@@ -1,7 +1,7 @@
 // Due, on a clock of 64 bits that wraps.
 ghost use mathlib.Core.Path.{_≡_};
-ghost use Rattle.esc_feedback.specs.Due.{due};
-use esc_feedback::elapsed_at_least;
+ghost use Rattle.base.specs.Due.{due};
+use base::elapsed_at_least;
 
 #[no_mangle]
 pub extern "C" fn esc_elapsed_at_least(start_ms: u64, now_ms: u64, duration_ms: u32) -> bool

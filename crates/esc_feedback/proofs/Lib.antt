@@ -1,10 +1,4 @@
 pub mod OutputLaws
-pub mod IdleConfigLaws
-pub mod IdleLaneLaws
-pub mod IdlePass
-pub mod IdleLoops
-pub mod IdleLaws
-pub mod IdleCases
 pub mod RequestLaws
 pub mod FaultLaws
 pub mod DeliveryLaws

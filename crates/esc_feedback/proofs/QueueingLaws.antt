@@ -2,8 +2,8 @@
 use mathlib.Core.Path.{_≡_, refl, ap, sym, _∙_}
 use mathlib.Core.Bool.{Bool, true, false, and-false, true≢false}
 use Prim.Native.Nat.{ℕ}
-use Rattle.blheli_telemetry.specs.Choice.{pick}
-use Rattle.esc_feedback.specs.Due.{due}
+use Rattle.base.specs.Choice.{pick}
+use Rattle.base.specs.Due.{due}
 use Rattle.esc_feedback.specs.Turn.{turnRequest, periodDue}
 use Rattle.esc_feedback.specs.Line.{isOpen}
 use Rattle.esc_feedback.specs.Queueing.{requestExists, nextRequest, names, granted, yes, no, markQueued}

@@ -4,7 +4,7 @@ use mathlib.Core.Bool.{Bool, true, false, true≢false}
 use Prim.Native.Nat.{ℕ, zero, suc}
 use lib.Dec.{eqb}
 use borrow.Author.Tests.{eqb-true, eq-eqb}
-use Rattle.blheli_telemetry.specs.Choice.{pick}
+use Rattle.base.specs.Choice.{pick}
 use Rattle.esc_feedback.specs.Output.{laneNumber, laneOf, sameOutput}
 use Rattle.esc_feedback.specs.Request.{sameRequest}
 use Rattle.esc_feedback.specs.declared.output.Lane.{Lane}

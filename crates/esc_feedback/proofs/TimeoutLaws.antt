@@ -2,8 +2,8 @@
 use mathlib.Core.Path.{_≡_, ap}
 use mathlib.Core.Bool.{true, false}
 use Prim.Native.Nat.{ℕ}
-use Rattle.blheli_telemetry.specs.Choice.{pick}
-use Rattle.esc_feedback.specs.Due.{due}
+use Rattle.base.specs.Choice.{pick}
+use Rattle.base.specs.Due.{due}
 use Rattle.esc_feedback.specs.Timeout.{noTimeout, ackTimedOut, responseTimedOut, polledOn, pollTimeout}
 use Rattle.esc_feedback.specs.declared.request.EscActuatorRequest.{EscActuatorRequest}
 use Rattle.esc_feedback.specs.declared.line.EarlyObservation.{EarlyObservation}

@@ -1,6 +1,6 @@
 -- 03: an acknowledgement (document 01, 'Manager').
 use Prim.Native.Nat.{ℕ}
-use Rattle.blheli_telemetry.specs.Choice.{pick}
+use Rattle.base.specs.Choice.{pick}
 use Rattle.esc_feedback.specs.Request.{sameRequest, updateOf}
 use Rattle.esc_feedback.specs.Stats.{requestsStarted, mismatchedAcks}
 use Rattle.esc_feedback.specs.Line.{startedLine}

@@ -1,9 +1,5 @@
-pub mod Due
 pub mod Output
 pub mod Request
-pub mod IdleConfig
-pub mod IdleLane
-pub mod Idle
 pub mod Config
 pub mod Stats
 pub mod Turn

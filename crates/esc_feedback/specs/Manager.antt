@@ -1,7 +1,7 @@
 -- The manager: its parts, and what several calls do to them (document 01, 'Manager').
 use Prim.Native.Nat.{ℕ}
 use lib.Dec.{eqb}
-use Rattle.blheli_telemetry.specs.Choice.{pick}
+use Rattle.base.specs.Choice.{pick}
 use Rattle.blheli_telemetry.specs.Parser.{newParser}
 use Rattle.blheli_telemetry.specs.declared.parser.StreamParser.{StreamParser}
 use Rattle.esc_feedback.specs.Stats.{Count, counted, noStats}

@@ -1,8 +1,8 @@
 -- 01 and 02: the request that exists, and its queueing (document 01, 'Manager').
 use Prim.Native.Nat.{ℕ}
 use mathlib.Core.Bool.{Bool, true, false, not, _&&_}
-use Rattle.blheli_telemetry.specs.Choice.{pick}
-use Rattle.esc_feedback.specs.Due.{due}
+use Rattle.base.specs.Choice.{pick}
+use Rattle.base.specs.Due.{due}
 use Rattle.esc_feedback.specs.Request.{sameRequest}
 use Rattle.esc_feedback.specs.Stats.{requestsQueued}
 use Rattle.esc_feedback.specs.Turn.{turnRequest, periodDue, turnAfter}

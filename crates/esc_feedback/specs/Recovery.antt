@@ -1,7 +1,7 @@
 -- 07: recovery (document 01, 'Manager').
 use Prim.Native.Nat.{ℕ}
 use mathlib.Core.Bool.{Bool, true, false}
-use Rattle.blheli_telemetry.specs.Choice.{pick}
+use Rattle.base.specs.Choice.{pick}
 use Rattle.esc_feedback.specs.Stats.{recoveries}
 use Rattle.esc_feedback.specs.Line.{closedLine}
 use Rattle.esc_feedback.specs.Fault.{mayRecover, retried}

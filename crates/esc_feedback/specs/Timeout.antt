@@ -1,7 +1,7 @@
 -- 04: timeouts (document 01, 'Manager').
 use Prim.Native.Nat.{ℕ}
-use Rattle.blheli_telemetry.specs.Choice.{pick}
-use Rattle.esc_feedback.specs.Due.{due}
+use Rattle.base.specs.Choice.{pick}
+use Rattle.base.specs.Due.{due}
 use Rattle.esc_feedback.specs.Stats.{ackTimeouts, responseTimeouts}
 use Rattle.esc_feedback.specs.Line.{closedLine}
 use Rattle.esc_feedback.specs.Fault.{timedOutAt}

@@ -1,7 +1,7 @@
 -- The lanes' turn (document 01, 'Manager').
 use Prim.Native.Nat.{ℕ}
 use mathlib.Core.Bool.{Bool, true}
-use Rattle.esc_feedback.specs.Due.{due}
+use Rattle.base.specs.Due.{due}
 use Rattle.esc_feedback.specs.Output.{nextOutput}
 use Rattle.esc_feedback.specs.Stats.{more}
 use Rattle.esc_feedback.specs.declared.output.Lane.the-variants.{Output1}

@@ -8,7 +8,7 @@ ghost use mathlib.Core.Path.{_≡_};
 ghost use Prim.Native.Nat.{_-_, min, max};
 ghost use Rattle.esc_feedback.specs.Fault.{noFault, heardAt, timedOutAt, quietWindow, mayRecover, retried};
 use crate::config::ESC_RETRY_BACKOFF_STEPS;
-use blheli_telemetry::saturating_inc;
+use base::saturating_inc;
 
 pub struct Fault {
     pub faulted: bool,

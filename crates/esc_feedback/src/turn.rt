@@ -5,7 +5,7 @@ use crate::output::EscOutput;
 use crate::output::Lane;
 use crate::request::EscActuatorRequest;
 use crate::stats::one_more;
-use crate::time::elapsed_at_least;
+use base::elapsed_at_least;
 
 pub enum LastRequest {
     None,

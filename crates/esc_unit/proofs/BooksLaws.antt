@@ -2,14 +2,14 @@
 use mathlib.Core.Path.{_≡_, ap}
 use mathlib.Core.Bool.{Bool, true, false}
 use Prim.Native.Nat.{ℕ}
-use Rattle.blheli_telemetry.specs.Choice.{pick}
+use Rattle.base.specs.Choice.{pick}
 use Rattle.esc_feedback.specs.Samples.{storedIn}
-use Rattle.esc_feedback.specs.Idle.{observeOf, statusOf}
+use Rattle.esc_idle.specs.Idle.{observeOf, statusOf}
 use Rattle.esc_feedback.specs.declared.request.EscTelemetryUpdate.{EscTelemetryUpdate}
-use Rattle.esc_feedback.specs.declared.idle.EscIdleJudged.{EscIdleJudged}
+use Rattle.esc_idle.specs.declared.idle.EscIdleJudged.{EscIdleJudged}
 use Rattle.esc_unit.specs.Figures.{figuresWith}
 use Rattle.esc_unit.specs.Books.{booksOf, judged, ifChecking, bookedIn, idleStatus}
-use Rattle.esc_unit.specs.declared.answer.IdleAnswer.the-variants.{NoCheck}
+use Rattle.esc_records.specs.declared.answer.IdleAnswer.the-variants.{NoCheck}
 use Rattle.esc_unit.specs.declared.books.Books.{Books}
 use Rattle.esc_unit.specs.declared.books.Booked.{Booked}
 

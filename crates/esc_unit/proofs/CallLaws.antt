@@ -5,15 +5,15 @@ use mathlib.Core.List.{List}
 use Prim.Native.Nat.{ℕ}
 use lib.Dec.{leb}
 use lib.ListN.{length}
-use Rattle.blheli_telemetry.specs.Choice.{pick}
-use Rattle.blheli_telemetry.specs.BigEndian.{overwrite}
-use Rattle.blheli_telemetry.specs.Reply.{Reply, accepted, refused, isAccepted}
-use Rattle.esc_unit.specs.Answer.{answerBytes}
+use Rattle.base.specs.Choice.{pick}
+use Rattle.base.specs.BigEndian.{overwrite}
+use Rattle.base.specs.Reply.{Reply, accepted, refused, isAccepted}
+use Rattle.esc_records.specs.Answer.{answerBytes}
 use Rattle.esc_unit.specs.Unit.{Replied, refusing, accepting, outputAfter, lengthOf}
 use Rattle.esc_unit.specs.Admission.{roomed}
-use Rattle.esc_unit.specs.Write.{writeReply, written}
+use Rattle.esc_records.specs.Write.{writeReply, written}
 use Rattle.esc_unit.specs.Replies.{callReply}
-use Rattle.esc_unit.specs.declared.answer.Answer.{Answer}
+use Rattle.esc_records.specs.declared.answer.Answer.{Answer}
 use Rattle.esc_unit.specs.declared.unit.Unit.{Unit}
 use Rattle.esc_unit.specs.declared.unit.Stepped.{Stepped}
 use Rattle.esc_unit.specs.declared.unit.call.CallReply.the-variants as call

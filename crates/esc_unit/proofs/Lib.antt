@@ -1,11 +1,5 @@
 pub mod FigureLaws
-pub mod NumberLaws
-pub mod RecordLaws
-pub mod PutLaws
-pub mod AnswerLaws
-pub mod WriteLaws
 pub mod BooksLaws
 pub mod StepLaws
 pub mod UnitLaws
 pub mod CallLaws
-pub mod Cases

@@ -14,9 +14,9 @@ use Rattle.esc_feedback.specs.declared.manager.EscManager.{EscManager}
 use Rattle.esc_unit.specs.Entry.{enteredIn}
 use Rattle.esc_unit.specs.Unit.{stepped, ackedOn, receivedOn, recoveredOn, stepOf}
 use Rattle.esc_unit.specs.Managed.{ackedBy, receivedBy, recoveredBy, managedBy}
-use Rattle.esc_unit.specs.declared.record.Record.{Record}
-use Rattle.esc_unit.specs.declared.record.Record.the-variants as kind
-use Rattle.esc_unit.specs.declared.answer.Answer.{Answer}
+use Rattle.esc_records.specs.declared.record.Record.{Record}
+use Rattle.esc_records.specs.declared.record.Record.the-variants as kind
+use Rattle.esc_records.specs.declared.answer.Answer.{Answer}
 use Rattle.esc_unit.specs.declared.books.Books.{Books}
 use Rattle.esc_unit.specs.declared.entry.Entry.{Entry}
 use Rattle.esc_unit.specs.declared.managed.Left.{Left}

@@ -5,13 +5,13 @@ use mathlib.Core.List.{List}
 use Prim.Native.Nat.{ℕ}
 use lib.Dec.{leb}
 use lib.ListN.{length}
-use Rattle.blheli_telemetry.specs.Choice.{pick}
-use Rattle.blheli_telemetry.specs.Reply.{Reply, accepted, refused, isAccepted}
-use Rattle.esc_unit.specs.Record.{readRecord}
-use Rattle.esc_unit.specs.Answer.{answerBytes}
+use Rattle.base.specs.Choice.{pick}
+use Rattle.base.specs.Reply.{Reply, accepted, refused, isAccepted}
+use Rattle.esc_records.specs.Record.{readRecord}
+use Rattle.esc_records.specs.Answer.{answerBytes}
 use Rattle.esc_unit.specs.Unit.{Replied, stepOf, opens, refusing, accepting, enter, ifRoom, callOn, callOf, outputAfter}
-use Rattle.esc_unit.specs.declared.record.Record.{Record}
-use Rattle.esc_unit.specs.declared.answer.Answer.{Answer}
+use Rattle.esc_records.specs.declared.record.Record.{Record}
+use Rattle.esc_records.specs.declared.answer.Answer.{Answer}
 use Rattle.esc_unit.specs.Admission.{admittedOn, admittedOf, onAdmitted}
 use Rattle.esc_unit.specs.declared.unit.Unit.{Unit}
 use Rattle.esc_unit.specs.declared.unit.Stepped.{Stepped}

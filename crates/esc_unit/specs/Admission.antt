@@ -2,11 +2,11 @@
 use Prim.Native.Nat.{ℕ}
 use mathlib.Core.Bool.{Bool, _||_}
 use mathlib.Core.List.{List}
-use Rattle.blheli_telemetry.specs.Choice.{pick}
-use Rattle.blheli_telemetry.specs.Reply.{Reply, accepted, refused}
-use Rattle.esc_unit.specs.Record.{readRecord}
+use Rattle.base.specs.Choice.{pick}
+use Rattle.base.specs.Reply.{Reply, accepted, refused}
+use Rattle.esc_records.specs.Record.{readRecord}
 use Rattle.esc_unit.specs.Unit.{Replied, stepOf, opens, refusing, accepting, ifRoom}
-use Rattle.esc_unit.specs.declared.record.Record.{Record}
+use Rattle.esc_records.specs.declared.record.Record.{Record}
 use Rattle.esc_unit.specs.declared.unit.Unit.{Unit}
 use Rattle.esc_unit.specs.declared.unit.Stepped.{Stepped}
 use Rattle.esc_unit.specs.declared.unit.admission.Admitted.{Admitted}

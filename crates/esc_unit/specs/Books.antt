@@ -1,22 +1,22 @@
 -- What only a delivered sample and the kinds 0a to 0e touch: stored samples, at most one idle check, figures (document 01).
 use Prim.Native.Nat.{ℕ}
 use mathlib.Core.Bool.{Bool, true, false}
-use Rattle.blheli_telemetry.specs.Choice.{pick}
+use Rattle.base.specs.Choice.{pick}
 use Rattle.esc_feedback.specs.Samples.{noSamples, storedIn, sampleAt}
-use Rattle.esc_feedback.specs.Idle.{newIdle, observeOf, statusOf}
+use Rattle.esc_idle.specs.Idle.{newIdle, observeOf, statusOf}
 use Rattle.esc_feedback.specs.declared.output.EscOutput.{EscOutput}
 use Rattle.esc_feedback.specs.declared.request.EscTelemetryUpdate.{EscTelemetryUpdate}
 use Rattle.esc_feedback.specs.declared.samples.StoredObservation.{StoredObservation}
 use Rattle.esc_feedback.specs.declared.samples.StoredObservation.the-variants as held
 use Rattle.esc_feedback.specs.declared.samples.EscSamples.{EscSamples}
-use Rattle.esc_feedback.specs.declared.idle_config.EscIdleQualificationConfig.{EscIdleQualificationConfig}
-use Rattle.esc_feedback.specs.declared.idle.EscIdleQualification.{EscIdleQualification}
-use Rattle.esc_feedback.specs.declared.idle.EscIdleJudged.{EscIdleJudged}
+use Rattle.esc_idle.specs.declared.idle_config.EscIdleQualificationConfig.{EscIdleQualificationConfig}
+use Rattle.esc_idle.specs.declared.idle.EscIdleQualification.{EscIdleQualification}
+use Rattle.esc_idle.specs.declared.idle.EscIdleJudged.{EscIdleJudged}
 use Rattle.esc_unit.specs.Figures.{noFigures, figuresWith}
 use Rattle.esc_unit.specs.declared.figures.Figures.{Figures}
-use Rattle.esc_unit.specs.declared.answer.IdleAnswer.the-variants.{NoCheck, Status}
-use Rattle.esc_unit.specs.declared.answer.StoredAnswer.{StoredAnswer}
-use Rattle.esc_unit.specs.declared.answer.StoredAnswer.the-variants as stored
+use Rattle.esc_records.specs.declared.answer.IdleAnswer.the-variants.{NoCheck, Status}
+use Rattle.esc_records.specs.declared.answer.StoredAnswer.{StoredAnswer}
+use Rattle.esc_records.specs.declared.answer.StoredAnswer.the-variants as stored
 use Rattle.esc_unit.specs.declared.books.Books.{Books}
 use Rattle.esc_unit.specs.declared.books.Booked.{Booked}
 

@@ -2,10 +2,10 @@
 use mathlib.Core.Bool.{true}
 use Rattle.esc_unit.specs.Figures.{figureAt}
 use Rattle.esc_unit.specs.Books.{noBooks, checkedBy, samplesDropped, bookedIn, idleStatus, storedAt}
-use Rattle.esc_unit.specs.declared.answer.AckAnswer.the-variants as ack
-use Rattle.esc_unit.specs.declared.answer.WireAnswer.the-variants as wire
-use Rattle.esc_unit.specs.declared.answer.Answer.{Answer}
-use Rattle.esc_unit.specs.declared.answer.Answer.the-variants as answer
+use Rattle.esc_records.specs.declared.answer.AckAnswer.the-variants as ack
+use Rattle.esc_records.specs.declared.answer.WireAnswer.the-variants as wire
+use Rattle.esc_records.specs.declared.answer.Answer.{Answer}
+use Rattle.esc_records.specs.declared.answer.Answer.the-variants as answer
 use Rattle.esc_unit.specs.declared.books.Books.{Books}
 use Rattle.esc_unit.specs.declared.entry.Entry.{Entry}
 use Rattle.esc_unit.specs.declared.entry.Entry.the-variants as entry

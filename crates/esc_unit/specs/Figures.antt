@@ -2,7 +2,7 @@
 use Prim.Native.Nat.{min, max}
 use lib.Dec.{eqb}
 use lib.ListN.{getD, set, replicate}
-use Rattle.blheli_telemetry.specs.Choice.{pick}
+use Rattle.base.specs.Choice.{pick}
 use Rattle.blheli_telemetry.specs.Parser.{saturated}
 use Rattle.blheli_telemetry.specs.declared.frame.EscTelemetry.{EscTelemetry}
 use Rattle.esc_feedback.specs.Output.{laneOf}

@@ -1,8 +1,3 @@
-pub mod Record
-pub mod Whole
-pub mod Answer
-pub mod Put
-pub mod Write
 pub mod Figures
 pub mod Books
 pub mod Entry

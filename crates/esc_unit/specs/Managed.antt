@@ -13,12 +13,12 @@ use Rattle.esc_feedback.specs.declared.answer.WireUpdate.{WireUpdate}
 use Rattle.esc_feedback.specs.declared.answer.WireUpdate.the-variants as update
 use Rattle.esc_feedback.specs.declared.manager.EscManager.{EscManager}
 use Rattle.esc_unit.specs.Unit.{reportOf}
-use Rattle.esc_unit.specs.declared.record.Record.{Record}
-use Rattle.esc_unit.specs.declared.record.Record.the-variants as kind
-use Rattle.esc_unit.specs.declared.answer.AckAnswer.the-variants as ack
-use Rattle.esc_unit.specs.declared.answer.WireAnswer.the-variants as wire
-use Rattle.esc_unit.specs.declared.answer.Answer.{Answer}
-use Rattle.esc_unit.specs.declared.answer.Answer.the-variants as answer
+use Rattle.esc_records.specs.declared.record.Record.{Record}
+use Rattle.esc_records.specs.declared.record.Record.the-variants as kind
+use Rattle.esc_records.specs.declared.answer.AckAnswer.the-variants as ack
+use Rattle.esc_records.specs.declared.answer.WireAnswer.the-variants as wire
+use Rattle.esc_records.specs.declared.answer.Answer.{Answer}
+use Rattle.esc_records.specs.declared.answer.Answer.the-variants as answer
 use Rattle.esc_unit.specs.declared.entry.Entry.{Entry}
 use Rattle.esc_unit.specs.declared.entry.Entry.the-variants as entry
 use Rattle.esc_unit.specs.declared.managed.Left.the-variants as left

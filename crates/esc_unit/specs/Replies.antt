@@ -1,8 +1,8 @@
 -- Document 01's number, and the value, for each reply of `step` and `call`.
 use Prim.Native.Nat.{ℕ}
-use Rattle.blheli_telemetry.specs.Reply.{Reply, accepted, refused}
+use Rattle.base.specs.Reply.{Reply, accepted, refused}
 use Rattle.esc_unit.specs.Unit.{Replied}
-use Rattle.esc_unit.specs.declared.answer.Answer.{Answer}
+use Rattle.esc_records.specs.declared.answer.Answer.{Answer}
 use Rattle.esc_unit.specs.declared.unit.StepReply.{StepReply}
 use Rattle.esc_unit.specs.declared.unit.StepReply.the-variants as step
 use Rattle.esc_unit.specs.declared.unit.UnitStepped.{UnitStepped}

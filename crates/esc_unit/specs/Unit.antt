@@ -4,9 +4,9 @@ use mathlib.Core.Bool.{Bool, true, false, not}
 use mathlib.Core.List.{List}
 use lib.Dec.{eqb, leb}
 use lib.ListN.{length}
-use Rattle.blheli_telemetry.specs.Choice.{pick}
-use Rattle.blheli_telemetry.specs.Reply.{Reply, accepted, refused}
-use Rattle.blheli_telemetry.specs.BigEndian.{overwrite}
+use Rattle.base.specs.Choice.{pick}
+use Rattle.base.specs.Reply.{Reply, accepted, refused}
+use Rattle.base.specs.BigEndian.{overwrite}
 use Rattle.esc_feedback.specs.Manager.{newManager, takeBack}
 use Rattle.esc_feedback.specs.Queueing.{nextRequest, markQueued}
 use Rattle.esc_feedback.specs.Ack.{onAck}
@@ -20,17 +20,17 @@ use Rattle.esc_feedback.specs.declared.answer.EscAckOutcome.the-variants as out
 use Rattle.esc_feedback.specs.declared.answer.WireUpdate.{WireUpdate}
 use Rattle.esc_feedback.specs.declared.answer.WireUpdate.the-variants as update
 use Rattle.esc_feedback.specs.declared.manager.EscManager.{EscManager}
-use Rattle.esc_unit.specs.Record.{readRecord}
-use Rattle.esc_unit.specs.Answer.{answerBytes}
+use Rattle.esc_records.specs.Record.{readRecord}
+use Rattle.esc_records.specs.Answer.{answerBytes}
 use Rattle.esc_unit.specs.Figures.{figureAt}
 use Rattle.esc_unit.specs.Books.{noBooks, checkedBy, samplesDropped, bookedIn, idleStatus, storedAt}
-use Rattle.esc_unit.specs.declared.record.Record.{Record}
-use Rattle.esc_unit.specs.declared.record.Record.the-variants as kind
-use Rattle.esc_unit.specs.declared.answer.AckAnswer.the-variants as ack
-use Rattle.esc_unit.specs.declared.answer.WireAnswer.the-variants as wire
-use Rattle.esc_unit.specs.declared.answer.UnitReport.{UnitReport}
-use Rattle.esc_unit.specs.declared.answer.Answer.{Answer}
-use Rattle.esc_unit.specs.declared.answer.Answer.the-variants as answer
+use Rattle.esc_records.specs.declared.record.Record.{Record}
+use Rattle.esc_records.specs.declared.record.Record.the-variants as kind
+use Rattle.esc_records.specs.declared.answer.AckAnswer.the-variants as ack
+use Rattle.esc_records.specs.declared.answer.WireAnswer.the-variants as wire
+use Rattle.esc_records.specs.declared.answer.UnitReport.{UnitReport}
+use Rattle.esc_records.specs.declared.answer.Answer.{Answer}
+use Rattle.esc_records.specs.declared.answer.Answer.the-variants as answer
 use Rattle.esc_unit.specs.declared.books.Books.{Books}
 use Rattle.esc_unit.specs.declared.books.Booked.{Booked}
 use Rattle.esc_unit.specs.declared.unit.Unit.{Unit}

@@ -3,13 +3,13 @@
 ghost use mathlib.Core.Path.{_≡_};
 ghost use Rattle.esc_unit.specs.Figures.{figureAt};
 ghost use Rattle.esc_unit.specs.Books.{noBooks, checkedBy, samplesDropped, judged, bookedIn, idleStatus, storedAt};
-use crate::answer::IdleAnswer;
-use crate::answer::StoredAnswer;
+use esc_records::IdleAnswer;
+use esc_records::StoredAnswer;
 use crate::figures::Figure;
 use crate::figures::Figures;
-use esc_feedback::EscIdleJudged;
-use esc_feedback::EscIdleQualification;
-use esc_feedback::EscIdleQualificationConfig;
+use esc_idle::EscIdleJudged;
+use esc_idle::EscIdleQualification;
+use esc_idle::EscIdleQualificationConfig;
 use esc_feedback::EscOutput;
 use esc_feedback::EscSamples;
 use esc_feedback::EscTelemetryUpdate;

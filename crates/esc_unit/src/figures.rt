@@ -4,7 +4,7 @@ ghost use mathlib.Core.Path.{_≡_};
 ghost use Prim.Native.Nat.{min, max};
 ghost use Rattle.esc_unit.specs.Figures.{noFigure, withSample, noFigures, figureAt, figuresWith};
 use blheli_telemetry::EscTelemetry;
-use blheli_telemetry::saturating_inc;
+use base::saturating_inc;
 use esc_feedback::EscOutput;
 use esc_feedback::EscTelemetryUpdate;
 

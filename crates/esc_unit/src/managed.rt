@@ -7,9 +7,9 @@ mod wire;
 
 ghost use mathlib.Core.Path.{_≡_};
 ghost use Rattle.esc_unit.specs.Managed.{managedBy};
-use crate::answer::Answer;
+use esc_records::Answer;
 use crate::entry::Entry;
-use crate::record::Record;
+use esc_records::Record;
 use esc_feedback::EscManager;
 
 pub enum Left {

@@ -10,11 +10,11 @@ ghost use mathlib.Core.Path.{_≡_};
 ghost use mathlib.Core.Bool.{_||_};
 ghost use Rattle.esc_unit.specs.Unit.{neverOpened, stepOf, opens, enter};
 ghost use Rattle.esc_unit.specs.Replies.{stepReplied};
-use crate::answer::Answer;
+use esc_records::Answer;
 use crate::books::Books;
 use crate::managed::Left;
 use crate::managed::manage;
-use crate::record::Record;
+use esc_records::Record;
 use esc_feedback::EscManager;
 use esc_feedback::EscManagerConfig;
 

@@ -6,7 +6,7 @@ use Prim.Native.Nat.{ℕ, _+_, _*_, _≤_, _<_}
 use native.Mathlib.Omega.{arith}
 use lib.Dec.{eqb}
 use lib.ListN.{length, take}
-use Rattle.blheli_telemetry.specs.Choice.{pick}
+use Rattle.base.specs.Choice.{pick}
 use Rattle.unit_text.specs.Line.{lineEnd, readLine, lineRead, recordLength}
 use Rattle.unit_text.specs.Cut.{firstLine, HeldTo, WholeFrom, CutFrom}
 use Rattle.unit_text.specs.declared.line.LineRead.{LineRead}

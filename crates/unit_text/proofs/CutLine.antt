@@ -5,7 +5,7 @@ use Prim.Native.Nat.{ℕ}
 use native.Mathlib.Omega.{arith}
 use lib.ListN.{length, take}
 use lib.Seq.{length-take-le, take-all, take-append-le, take-take}
-use Rattle.blheli_telemetry.proofs.ByCases.{below-or-not}
+use Rattle.base.proofs.ByCases.{below-or-not}
 use Rattle.esc_unit.specs.Unit.{Replied}
 use Rattle.esc_unit.specs.declared.unit.Unit.{Unit}
 use Rattle.unit_text.specs.Line.{readLine}

@@ -5,8 +5,8 @@ use Prim.Native.Nat.{ℕ, zero, suc, _-_, _≤_, _<_}
 use native.Mathlib.Omega.{arith}
 use borrow.Author.Tests.{le-leb, lt-leb}
 use lib.ListN.{length, take, length-append, length-take}
-use Rattle.blheli_telemetry.proofs.ByCases.{below-or-not}
-use Rattle.blheli_telemetry.proofs.BigEndianLaws.{overwrite-front}
+use Rattle.base.proofs.ByCases.{below-or-not}
+use Rattle.base.proofs.BigEndianLaws.{overwrite-front}
 use Rattle.unit_text.specs.Stream.{Streamed, Taken, afterOne, printedAt, after, printed, taken, takenText, feedOf, fedOutput, longestLine}
 use Rattle.unit_text.proofs.StreamLaws.{printed-at-length}
 

@@ -6,12 +6,12 @@ use native.Mathlib.Omega.{arith}
 use native.Mathlib.Nat.{add-zero}
 use lib.ListN.{length, take, drop, length-append, length-drop, take-append-drop, drop-of-length-le}
 use lib.Seq.{take-all, take-add, take-at, drop-drop, length-take-le}
-use Rattle.blheli_telemetry.specs.BigEndian.{overwrite}
-use Rattle.blheli_telemetry.specs.Reply.{Reply}
-use Rattle.blheli_telemetry.proofs.ByCases.{below-or-not}
-use Rattle.blheli_telemetry.proofs.BigEndianLaws.{overwrite-append}
+use Rattle.base.specs.BigEndian.{overwrite}
+use Rattle.base.specs.Reply.{Reply}
+use Rattle.base.proofs.ByCases.{below-or-not}
+use Rattle.base.proofs.BigEndianLaws.{overwrite-append}
 use Rattle.esc_unit.specs.Unit.{Replied}
-use Rattle.esc_unit.specs.Answer.{replyBytes}
+use Rattle.esc_records.specs.Answer.{replyBytes}
 use Rattle.esc_unit.specs.declared.unit.Unit.{Unit}
 use Rattle.unit_text.specs.Line.{lineEnd, readLine, printedLine}
 use Rattle.unit_text.specs.Session.{answerOn, answerLine, unitAfter, lineText}

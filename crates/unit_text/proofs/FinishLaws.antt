@@ -5,7 +5,7 @@ use Prim.Native.Nat.{ℕ}
 use native.Mathlib.Omega.{arith}
 use borrow.Author.Tests.{eq-eqb, ne-eqb}
 use lib.ListN.{length, take}
-use Rattle.blheli_telemetry.specs.Reply.{accepted}
+use Rattle.base.specs.Reply.{accepted}
 use Rattle.unit_text.specs.Line.{lineEnd}
 use Rattle.unit_text.specs.Session.{handedReply, handedOutput}
 use Rattle.unit_text.specs.Stream.{Streamed, Taken, printed, printedAtEnd, feedOf, fedOutput, longestLine}

@@ -9,7 +9,7 @@ use borrow.Author.Tests.{eq-eqb, ne-eqb, eqb-true, eqb-false}
 use lib.Dec.{eqb}
 use lib.ListN.{length, getD, take, drop, take-append-drop}
 use lib.Seq.{take-suc, take-all, drop-cons, length-take-le}
-use Rattle.blheli_telemetry.specs.Choice.{pick}
+use Rattle.base.specs.Choice.{pick}
 use Rattle.unit_text.specs.Line.{lineEnd}
 use Rattle.unit_text.specs.Cut.{firstLine, Holds, HeldTo}
 use Rattle.unit_text.proofs.LinesLaws.{Unended}

@@ -7,10 +7,10 @@ use native.Mathlib.Numerals.{add-one}
 use borrow.Author.Tests.{le-leb, lt-leb}
 use lib.ListN.{length, getD, set, take}
 use lib.Seq.{take-suc, length-take-le}
-use Rattle.blheli_telemetry.specs.Reply.{accepted, refused}
-use Rattle.blheli_telemetry.specs.BigEndian.{overwrite}
-use Rattle.blheli_telemetry.proofs.ByCases.{below-or-not}
-use Rattle.blheli_telemetry.proofs.BigEndianLaws.{overwrite-append, overwrite-set}
+use Rattle.base.specs.Reply.{accepted, refused}
+use Rattle.base.specs.BigEndian.{overwrite}
+use Rattle.base.proofs.ByCases.{below-or-not}
+use Rattle.base.proofs.BigEndianLaws.{overwrite-append, overwrite-set}
 use Rattle.unit_text.specs.Session.{handedReply, handedOutput}
 
 module _ (text out : List ℕ) where

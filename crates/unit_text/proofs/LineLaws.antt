@@ -8,7 +8,7 @@ use native.Mathlib.Numerals.{add-one}
 use borrow.Author.Tests.{lt-ltb, le-ltb, le-leb, lt-leb, eq-eqb, ne-eqb}
 use lib.ListN.{length, getD, take, drop, set, drop-of-length-le}
 use lib.Seq.{drop-cons, take-suc-set}
-use Rattle.blheli_telemetry.specs.Reply.{accepted, refused}
+use Rattle.base.specs.Reply.{accepted, refused}
 use Rattle.unit_text.specs.Digit.{digitOf}
 use Rattle.unit_text.specs.Line.{allDigits, pairs, readLine}
 

@@ -4,7 +4,7 @@ use mathlib.Core.List.{List, [], _++_, append-nil}
 use Prim.Native.Nat.{ℕ, _+_, _*_, _≤_, _<_}
 use native.Mathlib.Omega.{arith}
 use lib.ListN.{length, getD, set, take, drop, length-set, drop-of-length-le}
-use Rattle.blheli_telemetry.specs.Reply.{accepted, refused}
+use Rattle.base.specs.Reply.{accepted, refused}
 use Rattle.unit_text.specs.Digit.{digitOf}
 use Rattle.unit_text.specs.Line.{allDigits, pairs, readLine}
 use Rattle.unit_text.proofs.LineLaws.{read-digit, read-half, read-whole, first-bad, second-bad, both-good, last-good, pairs-more}

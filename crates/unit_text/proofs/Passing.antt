@@ -6,10 +6,10 @@ use Prim.Native.Nat.{ℕ, _+_, _-_, _≤_, _<_}
 use native.Mathlib.Omega.{arith}
 use lib.ListN.{length, take, drop, length-append, length-drop, take-append-drop}
 use lib.Seq.{take-all, take-add}
-use Rattle.blheli_telemetry.specs.Choice.{pick}
-use Rattle.blheli_telemetry.specs.Reply.{Reply, accepted, refused}
-use Rattle.blheli_telemetry.specs.BigEndian.{overwrite}
-use Rattle.blheli_telemetry.proofs.BigEndianLaws.{overwrite-append, overwrite-front}
+use Rattle.base.specs.Choice.{pick}
+use Rattle.base.specs.Reply.{Reply, accepted, refused}
+use Rattle.base.specs.BigEndian.{overwrite}
+use Rattle.base.proofs.BigEndianLaws.{overwrite-append, overwrite-front}
 use Rattle.unit_text.specs.Session.{sessionText, handedReply, handedOutput}
 use Rattle.unit_text.specs.Stream.{Streamed, Taken, atStart, after, printed, printedAtEnd, feedOf, fedOutput}
 use Rattle.unit_text.proofs.PrintLaws.{overwrite-none}

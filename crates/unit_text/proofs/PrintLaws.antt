@@ -7,8 +7,8 @@ use native.Mathlib.Nat.{add-zero}
 use native.Mathlib.Numerals.{add-one}
 use lib.ListN.{length, getD, set, take, length-append, take-append-drop}
 use lib.Seq.{take-suc, take-all, length-take-le}
-use Rattle.blheli_telemetry.specs.BigEndian.{overwrite}
-use Rattle.blheli_telemetry.proofs.BigEndianLaws.{overwrite-append, overwrite-set, overwrite-two}
+use Rattle.base.specs.BigEndian.{overwrite}
+use Rattle.base.proofs.BigEndianLaws.{overwrite-append, overwrite-set, overwrite-two}
 use Rattle.unit_text.specs.Digit.{glyphOf}
 use Rattle.unit_text.specs.Line.{hexOf, printedLine}
 

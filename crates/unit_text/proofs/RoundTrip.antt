@@ -5,7 +5,7 @@ use mathlib.Core.List.{List, [], _∷_}
 use Prim.Native.Nat.{ℕ, suc, _+_, _*_, _/_, _%_, _≤_, _<_}
 use native.Mathlib.Omega.{arith}
 use lib.ListN.{length, getD}
-use Rattle.blheli_telemetry.specs.Reply.{accepted}
+use Rattle.base.specs.Reply.{accepted}
 use Rattle.unit_text.specs.Digit.{digitOf, glyphOf}
 use Rattle.unit_text.specs.Line.{allDigits, pairs, hexOf, readLine}
 use Rattle.unit_text.proofs.DigitLaws.{digit-of-glyph}

@@ -9,8 +9,8 @@ use borrow.Author.Tests.{eq-eqb, ne-eqb}
 use lib.Dec.{eqb}
 use lib.ListN.{length, getD, take, drop}
 use lib.Seq.{take-suc, take-add}
-use Rattle.blheli_telemetry.specs.Choice.{pick}
-use Rattle.esc_unit.specs.Answer.{replyBytes}
+use Rattle.base.specs.Choice.{pick}
+use Rattle.esc_records.specs.Answer.{replyBytes}
 use Rattle.esc_unit.specs.declared.unit.Unit.{Unit}
 use Rattle.unit_text.specs.Line.{lineEnd}
 use Rattle.unit_text.specs.Session.{answerLine, unitAfter, lineText}

@@ -7,7 +7,7 @@ use native.Mathlib.Omega.{arith}
 use native.Mathlib.Numerals.{add-one}
 use lib.ListN.{length, getD, take, set, length-set}
 use lib.Seq.{length-take-le, take-suc-set}
-use Rattle.blheli_telemetry.specs.Reply.{accepted}
+use Rattle.base.specs.Reply.{accepted}
 use Rattle.unit_text.specs.Digit.{digitOf}
 use Rattle.unit_text.specs.Line.{allDigits, pairs}
 use Rattle.unit_text.specs.Cut.{firstLine, EndedAt, WholeFrom}

@@ -7,13 +7,13 @@ use Prim.Native.Nat.{ℕ, _+_, _*_, _^_, _≤_, _<_}
 use native.Mathlib.Omega.{arith}
 use lib.ListN.{length, getD, take}
 use lib.Seq.{length-take-le, getD-take}
-use Rattle.blheli_telemetry.specs.BigEndian.{numberAt}
-use Rattle.blheli_telemetry.specs.Reply.{accepted}
+use Rattle.base.specs.BigEndian.{numberAt}
+use Rattle.base.specs.Reply.{accepted}
 use Rattle.blheli_telemetry.specs.declared.parser.StreamParser.{StreamParser}
-use Rattle.esc_unit.specs.Record.{recordOf, readRecord}
-use Rattle.esc_unit.specs.declared.record.Record.the-variants as kind
-use Rattle.esc_unit.proofs.NumberLaws.{number-more, below-more}
-use Rattle.esc_unit.proofs.RecordLaws.{read-accepted}
+use Rattle.esc_records.specs.Record.{recordOf, readRecord}
+use Rattle.esc_records.specs.declared.record.Record.the-variants as kind
+use Rattle.base.proofs.NumberLaws.{number-more, below-more}
+use Rattle.esc_records.proofs.RecordLaws.{read-accepted}
 use Rattle.esc_unit.proofs.UnitLaws.{admitted-open}
 use Rattle.unit_text.specs.Digit.{digitOf}
 use Rattle.unit_text.specs.Line.{lineEnd, allDigits, pairs}

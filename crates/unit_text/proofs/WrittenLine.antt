@@ -7,14 +7,14 @@ use borrow.Author.Tests.{le-leb}
 use mathlib.Core.Bool.{Bool, true}
 use lib.Dec.{leb}
 use lib.ListN.{length, take}
-use Rattle.blheli_telemetry.specs.BigEndian.{overwrite}
-use Rattle.blheli_telemetry.specs.Choice.{pick}
-use Rattle.blheli_telemetry.specs.Reply.{accepted}
-use Rattle.blheli_telemetry.proofs.BigEndianLaws.{overwrite-front}
-use Rattle.esc_unit.specs.Answer.{answerBytes}
-use Rattle.esc_unit.specs.Write.{writeReply, written}
-use Rattle.esc_unit.specs.declared.answer.Answer.{Answer}
-use Rattle.esc_unit.proofs.AnswerLaws.{answer-at-most}
+use Rattle.base.specs.BigEndian.{overwrite}
+use Rattle.base.specs.Choice.{pick}
+use Rattle.base.specs.Reply.{accepted}
+use Rattle.base.proofs.BigEndianLaws.{overwrite-front}
+use Rattle.esc_records.specs.Answer.{answerBytes}
+use Rattle.esc_records.specs.Write.{writeReply, written}
+use Rattle.esc_records.specs.declared.answer.Answer.{Answer}
+use Rattle.esc_records.proofs.AnswerLaws.{answer-at-most}
 
 module _ (a : Answer) (buffer : List ℕ) (room : length buffer ≡ 43) where
   fits : leb (length (answerBytes a)) (length buffer) ≡ true

@@ -4,11 +4,11 @@ use mathlib.Core.Path.{_≡_}
 use mathlib.Core.Bool.{Bool}
 use mathlib.Core.List.{List}
 use lib.ListN.{length}
-use Rattle.blheli_telemetry.specs.BigEndian.{overwrite}
-use Rattle.blheli_telemetry.specs.Reply.{Reply, accepted, refused}
+use Rattle.base.specs.BigEndian.{overwrite}
+use Rattle.base.specs.Reply.{Reply, accepted, refused}
 use Rattle.esc_unit.specs.Admission.{admittedOf}
-use Rattle.esc_unit.specs.Answer.{replyBytes}
-use Rattle.esc_unit.specs.declared.record.Record.{Record}
+use Rattle.esc_records.specs.Answer.{replyBytes}
+use Rattle.esc_records.specs.declared.record.Record.{Record}
 use Rattle.esc_unit.specs.declared.unit.Unit.{Unit}
 use Rattle.unit_text.specs.Line.{printedLine}
 use Rattle.unit_text.specs.Session.{answerOn}

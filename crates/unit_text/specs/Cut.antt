@@ -4,8 +4,8 @@ use mathlib.Core.Path.{_≡_}
 use mathlib.Core.List.{List, [], _∷_, _++_}
 use lib.Dec.{eqb}
 use lib.ListN.{length, getD, take}
-use Rattle.blheli_telemetry.specs.Choice.{pick}
-use Rattle.blheli_telemetry.specs.Reply.{accepted}
+use Rattle.base.specs.Choice.{pick}
+use Rattle.base.specs.Reply.{accepted}
 use Rattle.unit_text.specs.Line.{lineEnd, readLine, lineRead, recordLength}
 use Rattle.unit_text.specs.declared.cut.Held.{Held}
 use Rattle.unit_text.specs.declared.cut.Whole.{Whole}

@@ -1,6 +1,6 @@
 -- Document 01's number, and the count, for each answer of a call that hands a text over.
 use Prim.Native.Nat.{ℕ}
-use Rattle.blheli_telemetry.specs.Reply.{Reply, accepted, refused}
+use Rattle.base.specs.Reply.{Reply, accepted, refused}
 use Rattle.unit_text.specs.declared.hand.Handed.{Handed}
 use Rattle.unit_text.specs.declared.hand.Handed.the-variants as hand
 

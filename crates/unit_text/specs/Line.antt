@@ -4,8 +4,8 @@ use mathlib.Core.Bool.{Bool, true, _&&_}
 use mathlib.Core.List.{List, [], _∷_, _++_}
 use lib.Dec.{eqb, leb}
 use lib.ListN.{length, take}
-use Rattle.blheli_telemetry.specs.Choice.{pick}
-use Rattle.blheli_telemetry.specs.Reply.{Reply, accepted, refused}
+use Rattle.base.specs.Choice.{pick}
+use Rattle.base.specs.Reply.{Reply, accepted, refused}
 use Rattle.unit_text.specs.Digit.{digitOf, isDigit, glyphOf}
 use Rattle.unit_text.specs.declared.line.LineRead.{LineRead}
 use Rattle.unit_text.specs.declared.line.LineRead.the-variants as read

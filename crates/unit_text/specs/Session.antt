@@ -3,11 +3,11 @@ use Prim.Native.Nat.{ℕ}
 use mathlib.Core.List.{List, [], _∷_, _++_}
 use lib.Dec.{eqb, leb}
 use lib.ListN.{length}
-use Rattle.blheli_telemetry.specs.Choice.{pick}
-use Rattle.blheli_telemetry.specs.Reply.{Reply, accepted, refused}
-use Rattle.blheli_telemetry.specs.BigEndian.{overwrite}
+use Rattle.base.specs.Choice.{pick}
+use Rattle.base.specs.Reply.{Reply, accepted, refused}
+use Rattle.base.specs.BigEndian.{overwrite}
 use Rattle.esc_unit.specs.Unit.{Replied, refusing, callOf, neverOpened}
-use Rattle.esc_unit.specs.Answer.{replyBytes}
+use Rattle.esc_records.specs.Answer.{replyBytes}
 use Rattle.esc_unit.specs.declared.unit.Unit.{Unit}
 use Rattle.unit_text.specs.Line.{lineEnd, readLine, printedLine}
 

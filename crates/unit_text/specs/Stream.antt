@@ -3,8 +3,8 @@ use Prim.Native.Nat.{ℕ, suc, _-_}
 use mathlib.Core.List.{List, [], _∷_, _++_}
 use lib.Dec.{eqb, leb}
 use lib.ListN.{length, take}
-use Rattle.blheli_telemetry.specs.Choice.{pick}
-use Rattle.blheli_telemetry.specs.BigEndian.{overwrite}
+use Rattle.base.specs.Choice.{pick}
+use Rattle.base.specs.BigEndian.{overwrite}
 use Rattle.esc_unit.specs.Unit.{neverOpened}
 use Rattle.esc_unit.specs.declared.unit.Unit.{Unit}
 use Rattle.unit_text.specs.Line.{lineEnd}

@@ -1,9 +1,9 @@
 -- The same session by the rules alone: no unit is in it. Each line that stands for a record is a call with room for any answer.
 use mathlib.Core.List.{List, [], _∷_, _++_}
 use Prim.Native.Nat.{ℕ}
-use Rattle.blheli_telemetry.specs.Reply.{Reply, accepted, refused}
-use Rattle.esc_unit.specs.Answer.{replyBytes}
-use Rattle.esc_unit.specs.declared.answer.Answer.{Answer}
+use Rattle.base.specs.Reply.{Reply, accepted, refused}
+use Rattle.esc_records.specs.Answer.{replyBytes}
+use Rattle.esc_records.specs.declared.answer.Answer.{Answer}
 use Rattle.booking.specs.History.{Call, History}
 use Rattle.booking.specs.Rule.{ruleFor}
 use Rattle.unit_text.specs.Line.{readLine, printedLine}

@@ -5,9 +5,9 @@ use mathlib.Core.Bool.{Bool, true}
 use mathlib.Core.List.{List}
 use lib.Dec.{ltb}
 use lib.ListN.{length}
-use Rattle.blheli_telemetry.specs.Reply.{accepted}
+use Rattle.base.specs.Reply.{accepted}
 use Rattle.blheli_telemetry.specs.declared.parser.StreamParser.{StreamParser}
-use Rattle.esc_unit.specs.declared.record.Record.the-variants as kind
+use Rattle.esc_records.specs.declared.record.Record.the-variants as kind
 use Rattle.unit_text.specs.Line.{readLine}
 use Rattle.unit_text.specs.Cut.{firstLine}
 use Rattle.unit_text.specs.Answering.{takenBy}

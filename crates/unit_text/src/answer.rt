@@ -4,16 +4,16 @@ ghost use mathlib.Core.List.{[], _∷_};
 ghost use Prim.Native.Nat.{_+_, _≤_};
 ghost use lib.ListN.{length};
 ghost use Rattle.esc_unit.specs.Admission.{admitted};
-ghost use Rattle.esc_unit.specs.Answer.{answerBytes};
+ghost use Rattle.esc_records.specs.Answer.{answerBytes};
 ghost use Rattle.unit_text.specs.Line.{lineRead, recordLength};
 ghost use Rattle.unit_text.specs.Answering.{takenBy, PrintedAt};
 use crate::line::LineRead;
 use crate::line::print_line;
 use esc_unit::Admitted;
-use esc_unit::Answer;
-use esc_unit::AnswerWritten;
+use esc_records::Answer;
+use esc_records::AnswerWritten;
 use esc_unit::admit;
-use esc_unit::write_answer;
+use esc_records::write_answer;
 
 // As much as any answer takes.
 const LONGEST_ANSWER: usize = 43;

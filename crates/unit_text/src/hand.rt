@@ -2,8 +2,8 @@
 ghost use mathlib.Core.Path.{_≡_};
 ghost use Prim.Native.Nat.{_+_, _≤_};
 ghost use lib.ListN.{length, take};
-ghost use Rattle.blheli_telemetry.specs.Choice.{pick};
-ghost use Rattle.blheli_telemetry.specs.BigEndian.{overwrite};
+ghost use Rattle.base.specs.Choice.{pick};
+ghost use Rattle.base.specs.BigEndian.{overwrite};
 ghost use Rattle.unit_text.specs.Session.{handedReply, handedOutput};
 ghost use Rattle.unit_text.specs.Handed.{handed};
 

@@ -2,7 +2,7 @@
 ghost use mathlib.Core.Path.{_≡_};
 ghost use Prim.Native.Nat.{_+_, _*_, _<_, _≤_};
 ghost use lib.ListN.{length};
-ghost use Rattle.blheli_telemetry.specs.BigEndian.{overwrite};
+ghost use Rattle.base.specs.BigEndian.{overwrite};
 ghost use Rattle.unit_text.specs.Digit.{digitOf, Tabled};
 ghost use Rattle.unit_text.specs.Line.{readLine, printedLine, lineRead, recordLength};
 use crate::digit::NO_DIGIT;

@@ -7,7 +7,7 @@ use crate::line::Line;
 use crate::manager::EscManager;
 use crate::request::EscActuatorRequest;
 use crate::stats::one_more;
-use crate::time::elapsed_at_least;
+use base::elapsed_at_least;
 
 pub struct Marked {
     pub manager: EscManager,

@@ -6,7 +6,7 @@ use crate::line::Line;
 use crate::line::PendingRequest;
 use crate::manager::EscManager;
 use crate::stats::one_more;
-use crate::time::elapsed_at_least;
+use base::elapsed_at_least;
 
 pub struct Polled {
     pub manager: EscManager,

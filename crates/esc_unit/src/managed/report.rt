@@ -1,11 +1,11 @@
 // 0c: what the manager shows. Nothing changes.
 ghost use mathlib.Core.Path.{_≡_};
 ghost use Rattle.esc_unit.specs.Managed.{managedBy};
-use crate::answer::Answer;
-use crate::answer::UnitReport;
+use esc_records::Answer;
+use esc_records::UnitReport;
 use crate::managed::Left;
 use crate::managed::Managed;
-use crate::record::Record;
+use esc_records::Record;
 use esc_feedback::EscManager;
 
 pub fn report(manager: EscManager) -> Managed

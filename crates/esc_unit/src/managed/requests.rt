@@ -1,12 +1,12 @@
 // 01 to 04: requests, their queueing, their start and their end.
 ghost use mathlib.Core.Path.{_≡_};
 ghost use Rattle.esc_unit.specs.Managed.{managedBy};
-use crate::answer::AckAnswer;
-use crate::answer::Answer;
+use esc_records::AckAnswer;
+use esc_records::Answer;
 use crate::entry::Entry;
 use crate::managed::Left;
 use crate::managed::Managed;
-use crate::record::Record;
+use esc_records::Record;
 use esc_feedback::EscAckOutcome;
 use esc_feedback::EscActuatorAck;
 use esc_feedback::EscActuatorRequest;

@@ -1,12 +1,12 @@
 // 05: the wire's bytes.
 ghost use mathlib.Core.Path.{_≡_};
 ghost use Rattle.esc_unit.specs.Managed.{managedBy};
-use crate::answer::Answer;
-use crate::answer::WireAnswer;
+use esc_records::Answer;
+use esc_records::WireAnswer;
 use crate::entry::Entry;
 use crate::managed::Left;
 use crate::managed::Managed;
-use crate::record::Record;
+use esc_records::Record;
 use esc_feedback::EscManager;
 use esc_feedback::WireUpdate;
 

@@ -1,9 +1,9 @@
 // Whether a record is taken: the refusals 4 to 8, in the order of their numbers.
 ghost use mathlib.Core.Path.{_≡_};
 ghost use Rattle.esc_unit.specs.Admission.{admittedOf, admitted};
-use crate::record::Record;
-use crate::record::RecordRead;
-use crate::record::read_record;
+use esc_records::Record;
+use esc_records::RecordRead;
+use esc_records::read_record;
 use crate::unit::opens;
 
 pub enum Admitted {

@@ -1,16 +1,16 @@
 // A call: a record's bytes in, its answer's bytes out, and every refusal in the order of its number.
 ghost use mathlib.Core.Path.{_≡_};
 ghost use lib.ListN.{length};
-ghost use Rattle.blheli_telemetry.specs.Reply.{accepted};
+ghost use Rattle.base.specs.Reply.{accepted};
 ghost use Rattle.esc_unit.specs.Unit.{callOf, outputAfter, lengthOf};
 ghost use Rattle.esc_unit.specs.Admission.{onAdmitted};
 ghost use Rattle.esc_unit.specs.Replies.{callReply};
-use crate::record::Record;
+use esc_records::Record;
 use crate::unit::Admitted;
 use crate::unit::Unit;
 use crate::unit::admit;
-use crate::write::AnswerWritten;
-use crate::write::write_answer;
+use esc_records::AnswerWritten;
+use esc_records::write_answer;
 
 pub enum CallReply {
     // How many bytes the answer has.

@@ -1,7 +1,7 @@
 -- The number of two bytes is the definition at width two.
 use mathlib.Core.Path.{_∙_, sym}
 use borrow.Author.Needs.{needs}
-use Rattle.blheli_telemetry.proofs.BigEndianLaws.{number-two}
+use Rattle.base.proofs.BigEndianLaws.{number-two}
 use Rattle.blheli_telemetry.proofs.big_endian.be16_at.Statement.{statement}
 use Rattle.blheli_telemetry.proofs.big_endian.be16_at.Tie as tie
 

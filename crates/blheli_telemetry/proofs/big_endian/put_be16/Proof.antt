@@ -4,7 +4,7 @@ use native.Mathlib.Omega.{arith}
 use mathlib.Core.Path.{sym}
 use Prim.Native.Nat.{_/_, _%_}
 use lib.ListN.{length-set}
-use Rattle.blheli_telemetry.proofs.BigEndianLaws.{bytes-two, overwrite-two}
+use Rattle.base.proofs.BigEndianLaws.{bytes-two, overwrite-two}
 use Rattle.blheli_telemetry.proofs.big_endian.put_be16.Statement.{statement}
 use Rattle.blheli_telemetry.proofs.big_endian.put_be16.Tie as tie
 

@@ -5,7 +5,7 @@ use mathlib.Core.Path.{_≡_, _∙_, sym}
 use mathlib.Core.Bool.{true, true≢false}
 use Prim.Native.Nat.{ℕ, _+_, _≤_, _<_, _-_}
 use borrow.Author.Count.{below-more}
-use Rattle.blheli_telemetry.proofs.ByCases.{below-or-not}
+use Rattle.base.proofs.ByCases.{below-or-not}
 use lib.ListN.{length}
 use Rattle.blheli_telemetry.specs.Capture.{window, good}
 use Rattle.blheli_telemetry.proofs.CaptureLaws.{short-window}

@@ -1,7 +1,7 @@
 -- A frame is good where reading accepts it.
 use borrow.Author.Needs.{needs}
 use mathlib.Core.Path.{_∙_, sym, ap}
-use Rattle.blheli_telemetry.specs.Reply.{isAccepted}
+use Rattle.base.specs.Reply.{isAccepted}
 use Rattle.blheli_telemetry.specs.Frame.{decoded}
 use Rattle.blheli_telemetry.proofs.DecodedLaws.{refused-else}
 use Rattle.blheli_telemetry.proofs.capture.is_good.Statement.{statement}

@@ -1,7 +1,7 @@
 -- Each field is the number at its place.
 use borrow.Author.Needs.{needs}
 use Rattle.blheli_telemetry.specs.Frame.{telemetryOf}
-use Rattle.blheli_telemetry.proofs.BigEndianLaws.{number-one}
+use Rattle.base.proofs.BigEndianLaws.{number-one}
 use Rattle.blheli_telemetry.proofs.frame.telemetry_of.Statement.{statement}
 use Rattle.blheli_telemetry.proofs.frame.telemetry_of.Tie as tie
 

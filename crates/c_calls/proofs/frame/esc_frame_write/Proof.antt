@@ -2,7 +2,7 @@
 use borrow.Author.Needs.{needs}
 use mathlib.Core.Path.{sym, ap, _∙_}
 use Prim.Native.Nat.{ℕ}
-use Rattle.blheli_telemetry.specs.Reply.{Reply}
+use Rattle.base.specs.Reply.{Reply}
 use Rattle.blheli_telemetry.specs.Frame.{encoded}
 use Rattle.c_calls.specs.Number.{numberOf}
 use Rattle.c_calls.proofs.frame.esc_frame_write.Statement.{statement}

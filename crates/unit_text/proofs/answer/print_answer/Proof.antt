@@ -5,9 +5,9 @@ use Prim.Native.Nat.{_≤_}
 use mathlib.Core.Bool.{false≢true}
 use lib.ListN.{take, length-take}
 use lib.Seq.{length-take-le}
-use Rattle.blheli_telemetry.specs.Reply.{isAccepted}
-use Rattle.esc_unit.specs.Answer.{answerBytes}
-use Rattle.esc_unit.specs.Write.{answerWritten}
+use Rattle.base.specs.Reply.{isAccepted}
+use Rattle.esc_records.specs.Answer.{answerBytes}
+use Rattle.esc_records.specs.Write.{answerWritten}
 use Rattle.unit_text.proofs.WrittenLine.{write-fits, written-front}
 use borrow.Author.Needs.{needs}
 use Rattle.unit_text.proofs.answer.print_answer.Statement.{statement}

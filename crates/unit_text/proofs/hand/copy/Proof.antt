@@ -4,7 +4,7 @@ use native.Mathlib.Omega.{arith}
 use mathlib.Core.Path.{_≡_, refl, ap, _∙_}
 use Prim.Native.Nat.{ℕ, _-_, _≤_}
 use lib.ListN.{length, take, length-set}
-use Rattle.blheli_telemetry.specs.BigEndian.{overwrite}
+use Rattle.base.specs.BigEndian.{overwrite}
 use Rattle.unit_text.proofs.PrintLaws.{overwrite-none}
 use Rattle.unit_text.proofs.HandLaws.{copy-more}
 use Rattle.unit_text.proofs.hand.copy.Statement.{statement}

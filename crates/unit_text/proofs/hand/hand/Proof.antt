@@ -4,7 +4,7 @@ use native.Mathlib.Omega.{arith}
 use mathlib.Core.Path.{sym, ap, _∙_}
 use lib.ListN.{take}
 use lib.Seq.{length-take-le}
-use Rattle.blheli_telemetry.specs.Reply.{accepted}
+use Rattle.base.specs.Reply.{accepted}
 use Rattle.unit_text.proofs.HandLaws.{fits-reply, fits-output, short-reply, short-output}
 use Rattle.unit_text.proofs.hand.hand.Statement.{statement}
 use Rattle.unit_text.proofs.hand.hand.Tie as tie

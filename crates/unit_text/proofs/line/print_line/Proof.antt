@@ -4,7 +4,7 @@ use native.Mathlib.Omega.{arith}
 use mathlib.Core.Path.{_≡_, refl}
 use Prim.Native.Nat.{_+_, _*_, _≤_, _-_}
 use lib.ListN.{length, take, length-set}
-use Rattle.blheli_telemetry.specs.BigEndian.{overwrite}
+use Rattle.base.specs.BigEndian.{overwrite}
 use Rattle.unit_text.specs.Line.{hexOf}
 use Rattle.unit_text.proofs.PrintLaws.{printed-length, overwrite-none, print-more, print-end}
 use Rattle.unit_text.proofs.line.print_line.Statement.{statement}

@@ -2,7 +2,7 @@
 use borrow.Author.Needs.{needs}
 use native.Mathlib.Omega.{arith}
 use Prim.Native.Nat.{_-_}
-use Rattle.esc_unit.proofs.NumberLaws.{seven-fit}
+use Rattle.base.proofs.NumberLaws.{seven-fit}
 use Rattle.unit_text.proofs.WireRead.{Timed, timed-none, timed-more, timed-all}
 use Rattle.unit_text.proofs.wire_line.wire_line.Statement.{statement}
 use Rattle.unit_text.proofs.wire_line.wire_line.Tie as tie

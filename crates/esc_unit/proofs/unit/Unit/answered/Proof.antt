@@ -1,6 +1,6 @@
 -- One law for want of room, one for the answer.
 use mathlib.Core.Path.{refl, sym, ap, _∙_}
-use Rattle.esc_unit.specs.Write.{answerWritten}
+use Rattle.esc_records.specs.Write.{answerWritten}
 use Rattle.esc_unit.proofs.CallLaws.{meets-space, meets-answer}
 use borrow.Author.Needs.{needs}
 use Rattle.esc_unit.proofs.unit.Unit.answered.Statement.{statement}

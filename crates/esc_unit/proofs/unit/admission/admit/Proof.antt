@@ -1,7 +1,7 @@
 -- The reader's refusals, and then whether the unit is open or the record opens it.
 use mathlib.Core.Path.{sym, ap, _∙_}
 use mathlib.Core.Bool.{true, false}
-use Rattle.esc_unit.specs.Record.{recordRead}
+use Rattle.esc_records.specs.Record.{recordRead}
 use Rattle.esc_unit.proofs.UnitLaws.{admitted-unread, admitted-open, admitted-shut}
 use borrow.Author.Needs.{needs}
 use Rattle.esc_unit.proofs.unit.admission.admit.Statement.{statement}

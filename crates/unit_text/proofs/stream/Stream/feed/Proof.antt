@@ -7,7 +7,7 @@ use mathlib.Core.List.{List, _++_}
 use Prim.Native.Nat.{ℕ, _+_, _-_, _≤_}
 use denote.Ref.{now}
 use lib.ListN.{length, take, drop}
-use Rattle.blheli_telemetry.specs.Reply.{Reply}
+use Rattle.base.specs.Reply.{Reply}
 use Rattle.esc_unit.specs.Admission.{admitted}
 use Rattle.esc_unit.specs.declared.unit.Unit.{Unit}
 use Rattle.unit_text.specs.Line.{readLine, lineRead}

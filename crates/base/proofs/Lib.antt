@@ -1,0 +1,5 @@
+pub mod ByCases
+pub mod Table
+pub mod BigEndianLaws
+pub mod NumberLaws
+pub mod PutLaws

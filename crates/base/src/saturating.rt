@@ -1,0 +1,9 @@
+// A count that stops at the largest u32.
+ghost use mathlib.Core.Path.{_≡_};
+ghost use Rattle.blheli_telemetry.specs.Parser.{saturated};
+
+pub fn saturating_inc(count: u32) -> u32
+    ensures { λ r. ⌜ r ≡ saturated count ⌝ }
+{
+    if count < 4294967295 { count + 1 } else { count }
+}

@@ -1,0 +1,54 @@
+-- Each case of one lane, and what a pass over the lanes says of each of them.
+use mathlib.Core.Path.{_≡_, refl, ap}
+use mathlib.Core.Bool.{Bool, true, false, _&&_, false≢true}
+use mathlib.Core.List.{List, [], _∷_}
+use Prim.Native.Nat.{ℕ, zero, suc, _<_, _≤_}
+use native.Mathlib.Nat.{not-suc-le-zero, le-of-suc-le-suc}
+use lib.ListN.{length}
+use borrow.Author.Tests.{lt-ltb, le-ltb, leb-true}
+use Rattle.base.specs.Choice.{pick}
+use Rattle.blheli_telemetry.specs.Parser.{saturated}
+use Rattle.base.specs.Due.{due}
+use Rattle.esc_idle.specs.IdleLane.{clearLane, countUp, countLane, expired, expireLane, enough, everyEnough, countOf}
+use Rattle.esc_feedback.specs.declared.request.EscTelemetryObservation.{EscTelemetryObservation}
+use Rattle.esc_idle.specs.declared.idle_lane.Newest.the-variants.{None, At}
+use Rattle.esc_idle.specs.declared.idle_lane.IdleLane.{IdleLane}
+
+module _ (least : ℕ) (o : EscTelemetryObservation) (l : IdleLane) where
+  pub count-cleared : o .sample .«erpm_div100» < least → countLane least o l ≡ clearLane
+  unfolding countLane
+  count-cleared h = rw (lt-ltb _ _ h)
+
+  pub count-risen : least ≤ o .sample .«erpm_div100»
+      → countLane least o l ≡ record { «consecutive_samples» = countUp (l .«consecutive_samples»); newest = At (o .«observed_at_ms») }
+  unfolding countLane
+  count-risen h = rw (le-ltb _ _ h)
+
+module _ (age now : ℕ) where
+  pub expired-none : expired age now None ≡ false
+  unfolding expired
+  expired-none = refl
+
+  pub expired-at : (observed : ℕ) → expired age now (At observed) ≡ due observed now (saturated age)
+  unfolding expired
+  expired-at observed = refl
+
+module _ (age now : ℕ) (l : IdleLane) where
+  pub expire-cleared : expired age now (l .newest) ≡ true → expireLane age now l ≡ clearLane
+  unfolding expireLane
+  expire-cleared e = ap (λ (b : Bool). pick b clearLane l) e
+
+  pub expire-kept : expired age now (l .newest) ≡ false → expireLane age now l ≡ l
+  unfolding expireLane
+  expire-kept e = ap (λ (b : Bool). pick b clearLane l) e
+
+-- where every lane has enough, each has
+both : (a b : Bool) → a && b ≡ true → (a ≡ true) × (b ≡ true)
+both true b e = (refl, e)
+both false b e = absurd (false≢true e)
+
+pub every-at : (required : ℕ) (ls : List IdleLane) → everyEnough required ls ≡ true → (k : ℕ) → k < length ls → required ≤ countOf ls k
+unfolding everyEnough
+every-at required [] e k h = absurd (not-suc-le-zero h)
+every-at required (l ∷ ls) e zero h = leb-true _ _ (both (enough required l) (everyEnough required ls) e .0)
+every-at required (l ∷ ls) e (suc k) h = every-at required ls (both (enough required l) (everyEnough required ls) e .1) k (le-of-suc-le-suc h)

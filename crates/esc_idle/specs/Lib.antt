@@ -1,0 +1,3 @@
+pub mod IdleConfig
+pub mod IdleLane
+pub mod Idle

@@ -1,0 +1,4 @@
+pub mod RecordLaws
+pub mod AnswerLaws
+pub mod WriteLaws
+pub mod Cases

@@ -1,0 +1,89 @@
+-- Reading a record: one law for each number that refuses it, and one for the record that is read.
+use mathlib.Core.Path.{_≡_, refl, ap, _∙_}
+use mathlib.Core.Bool.{Bool, true, false}
+use mathlib.Core.List.{List, [], _∷_}
+use Prim.Native.Nat.{ℕ, zero, suc, _<_, _≤_}
+use native.Mathlib.Omega.{arith}
+use lib.Dec.{ltb, ltb→lt}
+use lib.ListN.{length, getD, replicate}
+use borrow.Author.Tests.{eq-eqb, ne-eqb, le-leb, lt-leb}
+use Rattle.base.specs.Reply.{accepted, refused}
+use Rattle.base.proofs.Table.{at}
+use Rattle.esc_feedback.specs.declared.output.Lane.the-variants.{Output1}
+use Rattle.esc_records.specs.Record.{widthOf, lanePlace, outputOf, knownKind, laneFits, flagFits, recordOf, readRecord}
+use Rattle.esc_records.specs.Whole.{Whole}
+
+-- every kind has at least one byte, and its lane among its bytes: computed for each of the fifteen
+place-before : ℕ → ℕ → Bool
+place-before k _ = ltb (lanePlace k) (widthOf k)
+
+place-within : (k : ℕ) → k ≤ 0x0e → lanePlace k < widthOf k
+unfolding place-before
+place-within k h = ltb→lt (lanePlace k) (widthOf k) (at place-before (replicate 15 0) tt k (omega arith))
+
+pub sized : (s : List ℕ) → Whole s → (k : ℕ) → getD s 0 0 ≡ k → length s ≡ widthOf k
+sized s w k e = w .width ∙ ap widthOf e
+
+pub lane-within : (s : List ℕ) → Whole s → lanePlace (getD s 0 0) < length s
+lane-within s w = rw (w .width) (place-within (getD s 0 0) (w .known))
+
+-- past the lanes stands the first
+pub else-first : (lane : ℕ) → (lane ≡ 1 → ⊥) → (lane ≡ 2 → ⊥) → (lane ≡ 3 → ⊥) → outputOf lane ≡ record { 0 = Output1 }
+else-first zero a b c = refl
+else-first (suc zero) a b c = absurd (a refl)
+else-first (suc (suc zero)) a b c = absurd (b refl)
+else-first (suc (suc (suc zero))) a b c = absurd (c refl)
+else-first (suc (suc (suc (suc n)))) a b c = refl
+
+-- a number that is none of the first n
+abbrev Past : ℕ → ℕ → Type 0
+Past zero k = Unit {0}
+Past (suc n) k = Past n k × (k ≡ n → ⊥)
+
+pub past : (n k : ℕ) → Past n k → n ≤ k
+past zero k p = omega arith
+past (suc n) k p = let l : n ≤ k = past n k (p .0) in let e : k ≡ n → ⊥ = p .1 in omega arith
+
+-- the one kind without fields that comes after them
+pub else-report : (k : ℕ) → 0x0c ≤ k → k ≤ 0x0e → (k ≡ 0x0d → ⊥) → (k ≡ 0x0e → ⊥) → k ≡ 0x0c
+else-report k l h a b = omega arith
+
+empty-unknown : (s : List ℕ) → length s ≡ 0 → knownKind s ≡ false
+empty-unknown [] h = refl
+empty-unknown (k ∷ s) h = absurd (omega arith)
+
+above-unknown : (s : List ℕ) → 0x0e < getD s 0 0 → knownKind s ≡ false
+above-unknown [] h = absurd (omega arith)
+above-unknown (k ∷ s) h = lt-leb _ _ h
+
+known : (s : List ℕ) → 0 < length s → getD s 0 0 ≤ 0x0e → knownKind s ≡ true
+known [] l h = absurd (omega arith)
+known (k ∷ s) l h = le-leb _ _ h
+
+whole-known : (s : List ℕ) → Whole s → knownKind s ≡ true
+whole-known s w = known s (omega (arith, lane-within s w)) (w .known)
+
+module _ (s : List ℕ) where
+  pub read-empty : length s ≡ 0 → readRecord s ≡ refused 4
+  unfolding readRecord
+  read-empty h = rw (empty-unknown s h)
+
+  pub read-kind : 0x0e < getD s 0 0 → readRecord s ≡ refused 4
+  unfolding readRecord
+  read-kind h = rw (above-unknown s h)
+
+  pub read-length : 0 < length s → getD s 0 0 ≤ 0x0e → (length s ≡ widthOf (getD s 0 0) → ⊥) → readRecord s ≡ refused 5
+  unfolding readRecord
+  read-length l h n = rw (known s l h, ne-eqb _ _ n)
+
+  pub read-lane : Whole s → laneFits s ≡ false → readRecord s ≡ refused 6
+  unfolding readRecord
+  read-lane w e = rw (whole-known s w, eq-eqb _ _ (w .width), e)
+
+  pub read-flag : Whole s → laneFits s ≡ true → flagFits s ≡ false → readRecord s ≡ refused 7
+  unfolding readRecord
+  read-flag w e f = rw (whole-known s w, eq-eqb _ _ (w .width), e, f)
+
+  pub read-accepted : Whole s → laneFits s ≡ true → flagFits s ≡ true → readRecord s ≡ accepted (recordOf s)
+  unfolding readRecord
+  read-accepted w e f = rw (whole-known s w, eq-eqb _ _ (w .width), e, f)

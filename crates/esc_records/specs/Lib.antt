@@ -1,0 +1,4 @@
+pub mod Record
+pub mod Whole
+pub mod Answer
+pub mod Write

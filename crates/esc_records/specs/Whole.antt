@@ -1,0 +1,10 @@
+-- A record of a known kind with as many bytes as its kind has: what reading its fields asks.
+use Prim.Native.Nat.{ℕ, _≤_}
+use mathlib.Core.Path.{_≡_}
+use mathlib.Core.List.{List}
+use lib.ListN.{length, getD}
+use Rattle.esc_records.specs.Record.{widthOf}
+
+pub record Whole (s : List ℕ) : Type 0 where
+  pub known : getD s 0 0 ≤ 0x0e
+  pub width : length s ≡ widthOf (getD s 0 0)

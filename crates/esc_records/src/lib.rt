@@ -1,0 +1,22 @@
+// Records and answers: bytes to typed records, typed answers to bytes. No public function has a `requires`.
+mod answer;
+mod answer_len;
+mod fields;
+mod put;
+mod put_parts;
+mod reader;
+mod record;
+mod write;
+
+pub use answer::AckAnswer;
+pub use answer::Answer;
+pub use answer::Delivered;
+pub use answer::IdleAnswer;
+pub use answer::StoredAnswer;
+pub use answer::UnitReport;
+pub use answer::WireAnswer;
+pub use record::Record;
+pub use record::RecordRead;
+pub use record::read_record;
+pub use write::AnswerWritten;
+pub use write::write_answer;
