@@ -3,3 +3,4 @@ pub mod Table
 pub mod BigEndianLaws
 pub mod NumberLaws
 pub mod PutLaws
+pub mod Cases

@@ -1,6 +1,7 @@
 pub mod Choice
 pub mod Reply
-pub mod BigEndian
 pub mod Maybe
-pub mod Due
+pub mod BigEndian
 pub mod Put
+pub mod Saturated
+pub mod Due

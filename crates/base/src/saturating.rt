@@ -1,6 +1,6 @@
 // A count that stops at the largest u32.
 ghost use mathlib.Core.Path.{_≡_};
-ghost use Rattle.blheli_telemetry.specs.Parser.{saturated};
+ghost use Rattle.base.specs.Saturated.{saturated};
 
 pub fn saturating_inc(count: u32) -> u32
     ensures { λ r. ⌜ r ≡ saturated count ⌝ }

@@ -1,9 +1,10 @@
 -- The parser's calls, each as the whole parser that it leaves and what it gives (document 01, 'Frame').
-use Prim.Native.Nat.{ℕ, _+_, _-_, _^_, min}
+use Prim.Native.Nat.{ℕ, _+_}
 use mathlib.Core.List.{List, _++_}
 use lib.Dec.{ltb}
 use lib.ListN.{set, take, drop, replicate}
 use Rattle.base.specs.Choice.{pick}
+use Rattle.base.specs.Saturated.{saturated}
 use Rattle.base.specs.Reply.{Reply, accepted, refused}
 use Rattle.blheli_telemetry.specs.Frame.{readFrame}
 use Rattle.blheli_telemetry.specs.declared.frame.EscTelemetry.{EscTelemetry}
@@ -11,10 +12,6 @@ use Rattle.blheli_telemetry.specs.declared.parser.Parsed.the-variants.{S
 use Rattle.blheli_telemetry.specs.declared.parser.ParserStats.{ParserStats}
 use Rattle.blheli_telemetry.specs.declared.parser.StreamParser.{StreamParser}
 use Rattle.blheli_telemetry.specs.declared.parser.Pushed.{Pushed}
-
--- one more, held at the largest u32
-abbrev pub saturated : ℕ → ℕ
-saturated x = min (x + 1) (2 ^ 32 - 1)
 
 abbrev pub newParser : StreamParser
 newParser =

@@ -14,7 +14,7 @@ use Rattle.esc_idle.specs.declared.idle_config.EscIdleQualificationConfig.{EscI
 use Rattle.esc_idle.specs.declared.idle_verdict.EscIdleQualificationFailure.the-variants.{Overspeed}
 use Rattle.esc_idle.specs.declared.idle_verdict.EscIdleQualificationStatus.{EscIdleQualificationStatus}
 use Rattle.esc_idle.specs.declared.idle_verdict.EscIdleQualificationStatus.the-variants.{Pending, Failed}
-use Rattle.esc_feedback.proofs.Cases.{DueCases, due-cases}
+use Rattle.base.proofs.Cases.{DueCases, due-cases}
 use Rattle.esc_idle.proofs.IdleCases.{IdleCases, idle-cases}
 use Rattle.airframe.proofs.Cases.{SpeedCases, speed-cases}
 use Rattle.booking.specs.Wire.{OnWire, byte, latest, frameAt}

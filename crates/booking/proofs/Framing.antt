@@ -11,7 +11,7 @@ use lib.Dec.{eqb, leb}
 use borrow.Author.Tests.{le-leb, lt-leb, eqb-true, eqb-false}
 use Rattle.base.specs.Choice.{pick}
 use Rattle.blheli_telemetry.specs.Crc.{crcOf}
-use Rattle.blheli_telemetry.specs.Parser.{saturated}
+use Rattle.base.specs.Saturated.{saturated}
 use Rattle.blheli_telemetry.specs.Stream.{givenAfter, heldAfter, countedAfter}
 use Rattle.blheli_telemetry.specs.declared.parser.ParserStats.{ParserStats}
 use Rattle.base.proofs.ByCases.{below-or-not}

@@ -7,4 +7,3 @@ pub mod AckLaws
 pub mod TimeoutLaws
 pub mod WireLaws
 pub mod RecoveryLaws
-pub mod Cases

@@ -3,7 +3,7 @@ use Prim.Native.Nat.{ℕ, _-_, _*_, _^_, min, max}
 use mathlib.Core.Bool.{Bool, true, false, not, _&&_}
 use lib.Dec.{leb}
 use Rattle.base.specs.Choice.{pick}
-use Rattle.blheli_telemetry.specs.Parser.{saturated}
+use Rattle.base.specs.Saturated.{saturated}
 use Rattle.esc_feedback.specs.declared.fault.Fault.{Fault}
 
 abbrev pub faultOf : Bool → ℕ → ℕ → Fault

@@ -7,7 +7,7 @@ use native.Mathlib.Nat.{not-suc-le-zero, le-of-suc-le-suc}
 use lib.ListN.{length}
 use borrow.Author.Tests.{lt-ltb, le-ltb, leb-true}
 use Rattle.base.specs.Choice.{pick}
-use Rattle.blheli_telemetry.specs.Parser.{saturated}
+use Rattle.base.specs.Saturated.{saturated}
 use Rattle.base.specs.Due.{due}
 use Rattle.esc_idle.specs.IdleLane.{clearLane, countUp, countLane, expired, expireLane, enough, everyEnough, countOf}
 use Rattle.esc_feedback.specs.declared.request.EscTelemetryObservation.{EscTelemetryObservation}

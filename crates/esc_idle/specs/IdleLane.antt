@@ -5,7 +5,7 @@ use mathlib.Core.List.{List, [], _∷_, map}
 use lib.Dec.{leb, ltb}
 use lib.ListN.{getD}
 use Rattle.base.specs.Choice.{pick}
-use Rattle.blheli_telemetry.specs.Parser.{saturated}
+use Rattle.base.specs.Saturated.{saturated}
 use Rattle.base.specs.Due.{due}
 use Rattle.esc_feedback.specs.declared.request.EscTelemetryObservation.{EscTelemetryObservation}
 use Rattle.esc_idle.specs.declared.idle_lane.Newest.{Newest}

@@ -10,8 +10,8 @@ use crate::idle_verdict::EscIdleQualificationFailure;
 use crate::idle_verdict::EscIdleQualificationStatus;
 use crate::idle_verdict::IdleVerdict;
 use crate::idle_verdict::Terminal;
-use esc_feedback::EscTelemetryUpdate;
 use base::elapsed_at_least;
+use esc_feedback::EscTelemetryUpdate;
 
 pub struct EscIdleQualification {
     config: EscIdleQualificationConfig,

@@ -1,9 +1,9 @@
 // One lane of the idle check, and the passes over all four.
 ghost use mathlib.Core.Path.{_≡_};
 ghost use Rattle.esc_idle.specs.IdleLane.{clearLane, countUp, countLane, expired, expireLane, expireLanes, enough, everyEnough};
-use esc_feedback::EscTelemetryObservation;
 use base::elapsed_at_least;
 use base::saturating_inc;
+use esc_feedback::EscTelemetryObservation;
 
 // When a lane's newest sample was observed; a clear lane has none.
 pub enum Newest {

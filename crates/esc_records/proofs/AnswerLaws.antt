@@ -14,7 +14,7 @@ use Rattle.esc_idle.specs.declared.idle_verdict.EscIdleQualificationFailure.{Es
 use Rattle.esc_idle.specs.declared.idle_verdict.EscIdleQualificationFailure.the-variants as failure
 use Rattle.esc_idle.specs.declared.idle_verdict.EscIdleQualificationStatus.the-variants as idle
 use Rattle.esc_records.specs.Answer.{requestBytes, sampleBytes, failureBytes, idleBytes, deliveredBytes, nextBytes, ackBytes, timeoutBytes, wireBytes, backBytes, reportBytes, storedBytes, figureBytes, bodyBytes, answerBytes}
-use Rattle.esc_unit.specs.declared.figures.Figure.{Figure}
+use Rattle.esc_records.specs.declared.answer.Figure.{Figure}
 use Rattle.esc_records.specs.declared.answer.IdleAnswer.{IdleAnswer}
 use Rattle.esc_records.specs.declared.answer.IdleAnswer.the-variants as idleAnswer
 use Rattle.esc_records.specs.declared.answer.Delivered.{Delivered}

@@ -1,11 +1,10 @@
 // The answers of an opened unit, one variant for each shape that document 01 gives them.
-use esc_unit::Figure;
 use esc_feedback::BackAfterRetries;
-use esc_idle::EscIdleQualificationStatus;
 use esc_feedback::EscManagerStats;
 use esc_feedback::EscManagerTimeout;
 use esc_feedback::EscTelemetryUpdate;
 use esc_feedback::NextRequest;
+use esc_idle::EscIdleQualificationStatus;
 
 // What the idle check says, if there is one.
 pub enum IdleAnswer {
@@ -39,6 +38,13 @@ pub struct UnitReport {
     pub faulted: bool,
     pub retrying: bool,
     pub stats: EscManagerStats,
+}
+
+// A lane's figures: samples delivered, the largest temperature and the lowest voltage.
+pub struct Figure {
+    pub samples: u32,
+    pub hottest_c: u8,
+    pub lowest_cv: u16,
 }
 
 pub enum Answer {

@@ -9,10 +9,10 @@ use crate::answer::IdleAnswer;
 use crate::answer::StoredAnswer;
 use crate::answer::WireAnswer;
 use esc_feedback::BackAfterRetries;
-use esc_idle::EscIdleQualificationFailure;
-use esc_idle::EscIdleQualificationStatus;
 use esc_feedback::EscManagerTimeout;
 use esc_feedback::NextRequest;
+use esc_idle::EscIdleQualificationFailure;
+use esc_idle::EscIdleQualificationStatus;
 
 // A lead byte, and S L behind it.
 const REQUEST_LEN: usize = 6;

@@ -6,10 +6,10 @@ ghost use Rattle.base.specs.BigEndian.{numberAt};
 ghost use Rattle.esc_records.specs.Record.{timeAt, outputOf, requestAt, settingsOf, idleSettingsOf};
 use crate::reader::field;
 use esc_feedback::EscActuatorRequest;
-use esc_idle::EscIdleQualificationConfig;
 use esc_feedback::EscManagerConfig;
 use esc_feedback::EscOutput;
 use esc_feedback::Lane;
+use esc_idle::EscIdleQualificationConfig;
 
 pub(crate) fn time_at(bytes: &[u8], at: usize) -> u64
     requires { ⌜ at + 8 ≤ length (now bytes) ⌝ }

@@ -11,6 +11,7 @@ mod write;
 pub use answer::AckAnswer;
 pub use answer::Answer;
 pub use answer::Delivered;
+pub use answer::Figure;
 pub use answer::IdleAnswer;
 pub use answer::StoredAnswer;
 pub use answer::UnitReport;

@@ -6,20 +6,20 @@ ghost use Rattle.esc_feedback.specs.Output.{laneOf};
 ghost use Rattle.esc_records.specs.Answer.{requestBytes, sampleBytes, failureBytes, idleBytes, deliveredBytes, statsBytes, reportBytes, figureBytes};
 ghost use Rattle.base.specs.Put.{Room, Put};
 use crate::answer::Delivered;
+use crate::answer::Figure;
 use crate::answer::IdleAnswer;
 use crate::answer::UnitReport;
-use esc_unit::Figure;
 use crate::put::put_byte;
 use crate::put::put_flag;
 use crate::put::put_lane;
 use crate::put::put_number;
 use blheli_telemetry::EscTelemetry;
 use esc_feedback::EscActuatorRequest;
-use esc_idle::EscIdleQualificationFailure;
-use esc_idle::EscIdleQualificationStatus;
 use esc_feedback::EscManagerStats;
 use esc_feedback::EscOutput;
 use esc_feedback::EscTelemetryUpdate;
+use esc_idle::EscIdleQualificationFailure;
+use esc_idle::EscIdleQualificationStatus;
 
 pub(crate) fn put_marked_request(
     out: &mut [u8],

@@ -10,9 +10,9 @@ use crate::fields::settings_of;
 use crate::fields::time_at;
 use esc_feedback::EscActuatorAck;
 use esc_feedback::EscActuatorRequest;
-use esc_idle::EscIdleQualificationConfig;
 use esc_feedback::EscManagerConfig;
 use esc_feedback::EscOutput;
+use esc_idle::EscIdleQualificationConfig;
 
 const LAST_KIND: u8 = 0x0e;
 

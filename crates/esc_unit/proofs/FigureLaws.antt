@@ -2,10 +2,10 @@
 use mathlib.Core.Path.{_≡_}
 use Prim.Native.Nat.{min, max}
 use borrow.Author.Tests.{eq-eqb, ne-eqb}
-use Rattle.blheli_telemetry.specs.Parser.{saturated}
+use Rattle.base.specs.Saturated.{saturated}
 use Rattle.blheli_telemetry.specs.declared.frame.EscTelemetry.{EscTelemetry}
 use Rattle.esc_unit.specs.Figures.{withSample}
-use Rattle.esc_unit.specs.declared.figures.Figure.{Figure}
+use Rattle.esc_records.specs.declared.answer.Figure.{Figure}
 
 module _ (f : Figure) (t : EscTelemetry) where
   pub first-sample : f .samples ≡ 0

@@ -3,12 +3,12 @@ use Prim.Native.Nat.{min, max}
 use lib.Dec.{eqb}
 use lib.ListN.{getD, set, replicate}
 use Rattle.base.specs.Choice.{pick}
-use Rattle.blheli_telemetry.specs.Parser.{saturated}
+use Rattle.base.specs.Saturated.{saturated}
 use Rattle.blheli_telemetry.specs.declared.frame.EscTelemetry.{EscTelemetry}
 use Rattle.esc_feedback.specs.Output.{laneOf}
 use Rattle.esc_feedback.specs.declared.output.EscOutput.{EscOutput}
 use Rattle.esc_feedback.specs.declared.request.EscTelemetryUpdate.{EscTelemetryUpdate}
-use Rattle.esc_unit.specs.declared.figures.Figure.{Figure}
+use Rattle.esc_records.specs.declared.answer.Figure.{Figure}
 use Rattle.esc_unit.specs.declared.figures.Figures.{Figures}
 
 abbrev pub noFigure : Figure

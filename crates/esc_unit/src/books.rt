@@ -3,17 +3,17 @@
 ghost use mathlib.Core.Path.{_≡_};
 ghost use Rattle.esc_unit.specs.Figures.{figureAt};
 ghost use Rattle.esc_unit.specs.Books.{noBooks, checkedBy, samplesDropped, judged, bookedIn, idleStatus, storedAt};
-use esc_records::IdleAnswer;
-use esc_records::StoredAnswer;
-use crate::figures::Figure;
 use crate::figures::Figures;
-use esc_idle::EscIdleJudged;
-use esc_idle::EscIdleQualification;
-use esc_idle::EscIdleQualificationConfig;
 use esc_feedback::EscOutput;
 use esc_feedback::EscSamples;
 use esc_feedback::EscTelemetryUpdate;
 use esc_feedback::StoredObservation;
+use esc_idle::EscIdleJudged;
+use esc_idle::EscIdleQualification;
+use esc_idle::EscIdleQualificationConfig;
+use esc_records::Figure;
+use esc_records::IdleAnswer;
+use esc_records::StoredAnswer;
 
 pub struct Books {
     samples: EscSamples,

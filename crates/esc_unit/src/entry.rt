@@ -1,14 +1,14 @@
 // What a record leaves for the books, once the manager has had it.
 ghost use mathlib.Core.Path.{_≡_};
 ghost use Rattle.esc_unit.specs.Entry.{enteredIn};
+use crate::books::Books;
+use esc_feedback::EscOutput;
+use esc_feedback::EscTelemetryUpdate;
+use esc_idle::EscIdleQualificationConfig;
 use esc_records::AckAnswer;
 use esc_records::Answer;
 use esc_records::Delivered;
 use esc_records::WireAnswer;
-use crate::books::Books;
-use esc_idle::EscIdleQualificationConfig;
-use esc_feedback::EscOutput;
-use esc_feedback::EscTelemetryUpdate;
 
 pub enum Entry {
     // 00: everything starts anew.

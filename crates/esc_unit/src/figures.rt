@@ -3,56 +3,21 @@
 ghost use mathlib.Core.Path.{_≡_};
 ghost use Prim.Native.Nat.{min, max};
 ghost use Rattle.esc_unit.specs.Figures.{noFigure, withSample, noFigures, figureAt, figuresWith};
-use blheli_telemetry::EscTelemetry;
 use base::saturating_inc;
+use blheli_telemetry::EscTelemetry;
 use esc_feedback::EscOutput;
 use esc_feedback::EscTelemetryUpdate;
-
-pub struct Figure {
-    pub samples: u32,
-    pub hottest_c: u8,
-    pub lowest_cv: u16,
-}
+use esc_records::Figure;
 
 pub struct Figures {
     lanes: [Figure; 4],
-}
-
-impl Figure {
-    // All 0 before the first sample.
-    pub fn new() -> Self
-        ensures { λ r. ⌜ r ≡ noFigure ⌝ }
-    {
-        Self {
-            samples: 0,
-            hottest_c: 0,
-            lowest_cv: 0,
-        }
-    }
-
-    pub fn with(self, sample: EscTelemetry) -> Figure
-        ensures { λ r. ⌜ r ≡ withSample self sample ⌝ }
-    {
-        if self.samples == 0 {
-            return Figure {
-                samples: 1,
-                hottest_c: sample.temperature_c,
-                lowest_cv: sample.voltage_cv,
-            };
-        }
-        Figure {
-            samples: saturating_inc(self.samples),
-            hottest_c: larger(self.hottest_c, sample.temperature_c),
-            lowest_cv: smaller(self.lowest_cv, sample.voltage_cv),
-        }
-    }
 }
 
 impl Figures {
     pub fn new() -> Self
         ensures { λ r. ⌜ r ≡ noFigures ⌝ }
     {
-        let figure = Figure::new();
+        let figure = no_figure();
         let lanes = [figure; 4];
         Self { lanes }
     }
@@ -73,9 +38,37 @@ impl Figures {
         let lane = output.index();
         let old = figures.lanes[lane];
         let sample = update.observation.sample;
-        let figure = old.with(sample);
+        let figure = with_sample(old, sample);
         figures.lanes[lane] = figure;
         figures
+    }
+}
+
+// All 0 before the first sample.
+fn no_figure() -> Figure
+    ensures { λ r. ⌜ r ≡ noFigure ⌝ }
+{
+    Figure {
+        samples: 0,
+        hottest_c: 0,
+        lowest_cv: 0,
+    }
+}
+
+fn with_sample(figure: Figure, sample: EscTelemetry) -> Figure
+    ensures { λ r. ⌜ r ≡ withSample figure sample ⌝ }
+{
+    if figure.samples == 0 {
+        return Figure {
+            samples: 1,
+            hottest_c: sample.temperature_c,
+            lowest_cv: sample.voltage_cv,
+        };
+    }
+    Figure {
+        samples: saturating_inc(figure.samples),
+        hottest_c: larger(figure.hottest_c, sample.temperature_c),
+        lowest_cv: smaller(figure.lowest_cv, sample.voltage_cv),
     }
 }
 

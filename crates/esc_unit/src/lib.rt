@@ -8,7 +8,6 @@ mod unit;
 pub use books::Books;
 pub use entry::Entered;
 pub use entry::Entry;
-pub use figures::Figure;
 pub use figures::Figures;
 pub use managed::Left;
 pub use managed::Managed;

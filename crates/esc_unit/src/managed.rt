@@ -7,10 +7,10 @@ mod wire;
 
 ghost use mathlib.Core.Path.{_≡_};
 ghost use Rattle.esc_unit.specs.Managed.{managedBy};
-use esc_records::Answer;
 use crate::entry::Entry;
-use esc_records::Record;
 use esc_feedback::EscManager;
+use esc_records::Answer;
+use esc_records::Record;
 
 pub enum Left {
     // The record is answered, and the books are as they were.

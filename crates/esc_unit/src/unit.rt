@@ -10,13 +10,13 @@ ghost use mathlib.Core.Path.{_≡_};
 ghost use mathlib.Core.Bool.{_||_};
 ghost use Rattle.esc_unit.specs.Unit.{neverOpened, stepOf, opens, enter};
 ghost use Rattle.esc_unit.specs.Replies.{stepReplied};
-use esc_records::Answer;
 use crate::books::Books;
 use crate::managed::Left;
 use crate::managed::manage;
-use esc_records::Record;
 use esc_feedback::EscManager;
 use esc_feedback::EscManagerConfig;
+use esc_records::Answer;
+use esc_records::Record;
 
 // Its parts are public, so that a loop over records can change in place what a record touches.
 pub struct Unit {

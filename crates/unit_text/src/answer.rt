@@ -9,11 +9,11 @@ ghost use Rattle.unit_text.specs.Line.{lineRead, recordLength};
 ghost use Rattle.unit_text.specs.Answering.{takenBy, PrintedAt};
 use crate::line::LineRead;
 use crate::line::print_line;
-use esc_unit::Admitted;
 use esc_records::Answer;
 use esc_records::AnswerWritten;
-use esc_unit::admit;
 use esc_records::write_answer;
+use esc_unit::Admitted;
+use esc_unit::admit;
 
 // As much as any answer takes.
 const LONGEST_ANSWER: usize = 43;

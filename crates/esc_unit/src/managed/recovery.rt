@@ -1,12 +1,12 @@
 // 07 and 08: recovery, and the note of the retries that it took.
 ghost use mathlib.Core.Path.{_≡_};
 ghost use Rattle.esc_unit.specs.Managed.{managedBy};
-use esc_records::Answer;
 use crate::entry::Entry;
 use crate::managed::Left;
 use crate::managed::Managed;
-use esc_records::Record;
 use esc_feedback::EscManager;
+use esc_records::Answer;
+use esc_records::Record;
 
 pub fn try_recover(manager: EscManager, armed: bool, now_ms: u64) -> Managed
     ensures { λ r. ⌜ r ≡ managedBy manager (Record.TryRecover armed «now_ms») ⌝ }

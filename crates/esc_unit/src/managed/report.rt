@@ -1,12 +1,12 @@
 // 0c: what the manager shows. Nothing changes.
 ghost use mathlib.Core.Path.{_≡_};
 ghost use Rattle.esc_unit.specs.Managed.{managedBy};
-use esc_records::Answer;
-use esc_records::UnitReport;
 use crate::managed::Left;
 use crate::managed::Managed;
-use esc_records::Record;
 use esc_feedback::EscManager;
+use esc_records::Answer;
+use esc_records::Record;
+use esc_records::UnitReport;
 
 pub fn report(manager: EscManager) -> Managed
     ensures { λ r. ⌜ r ≡ managedBy manager Record.Report ⌝ }

@@ -1,16 +1,16 @@
 // 01 to 04: requests, their queueing, their start and their end.
 ghost use mathlib.Core.Path.{_≡_};
 ghost use Rattle.esc_unit.specs.Managed.{managedBy};
-use esc_records::AckAnswer;
-use esc_records::Answer;
 use crate::entry::Entry;
 use crate::managed::Left;
 use crate::managed::Managed;
-use esc_records::Record;
 use esc_feedback::EscAckOutcome;
 use esc_feedback::EscActuatorAck;
 use esc_feedback::EscActuatorRequest;
 use esc_feedback::EscManager;
+use esc_records::AckAnswer;
+use esc_records::Answer;
+use esc_records::Record;
 
 pub fn next_request(manager: EscManager, now_ms: u64) -> Managed
     ensures { λ r. ⌜ r ≡ managedBy manager (Record.NextRequest «now_ms») ⌝ }

@@ -1,14 +1,14 @@
 // 05: the wire's bytes.
 ghost use mathlib.Core.Path.{_≡_};
 ghost use Rattle.esc_unit.specs.Managed.{managedBy};
-use esc_records::Answer;
-use esc_records::WireAnswer;
 use crate::entry::Entry;
 use crate::managed::Left;
 use crate::managed::Managed;
-use esc_records::Record;
 use esc_feedback::EscManager;
 use esc_feedback::WireUpdate;
+use esc_records::Answer;
+use esc_records::Record;
+use esc_records::WireAnswer;
 
 pub fn push_wire_byte(manager: EscManager, byte: u8, observed_at_ms: u64) -> Managed
     ensures { λ r. ⌜ r ≡ managedBy manager (Record.WireByte byte «observed_at_ms») ⌝ }

@@ -1,10 +1,10 @@
 // Whether a record is taken: the refusals 4 to 8, in the order of their numbers.
 ghost use mathlib.Core.Path.{_≡_};
 ghost use Rattle.esc_unit.specs.Admission.{admittedOf, admitted};
+use crate::unit::opens;
 use esc_records::Record;
 use esc_records::RecordRead;
 use esc_records::read_record;
-use crate::unit::opens;
 
 pub enum Admitted {
     Record(Record),

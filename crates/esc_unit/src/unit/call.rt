@@ -5,11 +5,11 @@ ghost use Rattle.base.specs.Reply.{accepted};
 ghost use Rattle.esc_unit.specs.Unit.{callOf, outputAfter, lengthOf};
 ghost use Rattle.esc_unit.specs.Admission.{onAdmitted};
 ghost use Rattle.esc_unit.specs.Replies.{callReply};
-use esc_records::Record;
 use crate::unit::Admitted;
 use crate::unit::Unit;
 use crate::unit::admit;
 use esc_records::AnswerWritten;
+use esc_records::Record;
 use esc_records::write_answer;
 
 pub enum CallReply {

@@ -2,13 +2,13 @@
 use borrow.Author.Needs.{needs}
 use mathlib.Core.Path.{sym}
 use Rattle.esc_unit.proofs.FigureLaws.{first-sample, later-sample}
-use Rattle.esc_unit.proofs.figures.Figure.with.Statement.{statement}
-use Rattle.esc_unit.proofs.figures.Figure.with.Tie as tie
+use Rattle.esc_unit.proofs.figures.with_sample.Statement.{statement}
+use Rattle.esc_unit.proofs.figures.with_sample.Tie as tie
 
 returns : tie.Need-returns
 returns c =
     let s = c .before .before .args in
-    sym (first-sample (s .self) (s .sample) (c .if1 .taken))
+    sym (first-sample (s .figure) (s .sample) (c .if1 .taken))
 
 saturating-inc-requires : tie.Need-saturating-inc-requires
 saturating-inc-requires c κs = search needs
@@ -23,8 +23,8 @@ returns-2 : tie.Need-returns-2
 returns-2 c =
     let s = c .before .before .before .before .before .args in
     rw (c .smaller .ensures, c .before .larger .ensures, c .before .before .saturating-inc .ensures)
-    (sym (later-sample (s .self) (s .sample) (c .before .before .before .if1 .left)))
+    (sym (later-sample (s .figure) (s .sample) (c .before .before .before .if1 .left)))
 
-pub with-spec : {M : Type 1} → statement M
-with-spec =
+pub with-sample-spec : {M : Type 1} → statement M
+with-sample-spec =
     tie.close (tie.spec returns saturating-inc-requires larger-requires smaller-requires returns-2)
