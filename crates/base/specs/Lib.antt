@@ -3,5 +3,6 @@ pub mod Reply
 pub mod Maybe
 pub mod BigEndian
 pub mod Put
+pub mod Handed
 pub mod Saturated
 pub mod Due

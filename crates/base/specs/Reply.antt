@@ -9,3 +9,8 @@ pub data Reply (A : Type 0) : Type 0 where
 abbrev pub isAccepted : {A : Type 0} → Reply A → Bool
 isAccepted (accepted a) = true
 isAccepted (refused n) = false
+
+-- what a call for C answers: 0 where it is accepted, else document 01's number
+abbrev pub numberOf : {A : Type 0} → Reply A → ℕ
+numberOf (accepted a) = 0
+numberOf (refused number) = number

@@ -1,7 +1,11 @@
 // Words that every crate uses: a choice, a reply, numbers highest byte first, bytes put into a lent buffer, what may be
 // missing, times and counts. No public function has a `requires`.
+mod lent;
 mod saturating;
 mod time;
 
+pub use lent::Handed;
+pub use lent::copy;
+pub use lent::hand;
 pub use saturating::saturating_inc;
 pub use time::elapsed_at_least;

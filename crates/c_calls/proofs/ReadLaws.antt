@@ -9,7 +9,7 @@ use Rattle.blheli_telemetry.specs.Frame.{readFrame}
 use Rattle.blheli_telemetry.specs.declared.frame.EscTelemetry.{EscTelemetry}
 use Rattle.base.proofs.ByCases.{below-or-not}
 use Rattle.blheli_telemetry.proofs.FrameLaws.{read-length}
-use Rattle.c_calls.specs.Number.{numberOf}
+use Rattle.base.specs.Reply.{numberOf}
 use Rattle.c_calls.specs.Frame.{fieldsOn, readNumber, fieldsRead}
 
 module _ (f out : List ℕ) where

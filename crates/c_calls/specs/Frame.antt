@@ -8,7 +8,7 @@ use Rattle.base.specs.Reply.{Reply, accepted, refused}
 use Rattle.base.specs.BigEndian.{overwrite}
 use Rattle.blheli_telemetry.specs.Frame.{readFrame}
 use Rattle.blheli_telemetry.specs.declared.frame.EscTelemetry.{EscTelemetry}
-use Rattle.c_calls.specs.Number.{numberOf}
+use Rattle.base.specs.Reply.{numberOf}
 
 abbrev pub telemetryBy : ℕ → ℕ → ℕ → ℕ → ℕ → EscTelemetry
 telemetryBy temperature voltage current consumption erpm =

@@ -5,7 +5,7 @@ ghost use Prim.Native.Nat.{_+_, _≤_};
 ghost use lib.ListN.{length};
 ghost use Rattle.base.specs.BigEndian.{overwrite};
 ghost use Rattle.blheli_telemetry.specs.Frame.{writeReply, written};
-ghost use Rattle.c_calls.specs.Number.{numberOf};
+ghost use Rattle.base.specs.Reply.{numberOf};
 ghost use Rattle.c_calls.specs.Frame.{telemetryBy, fieldsOf, readNumber, fieldsRead};
 use blheli_telemetry::Decoded;
 use blheli_telemetry::Encoded;

@@ -7,11 +7,11 @@ use borrow.Author.Tests.{eq-eqb, ne-eqb}
 use lib.ListN.{length, take}
 use Rattle.base.specs.Reply.{accepted}
 use Rattle.unit_text.specs.Line.{lineEnd}
-use Rattle.unit_text.specs.Session.{handedReply, handedOutput}
+use Rattle.base.specs.Handed.{handedReply, handedOutput}
 use Rattle.unit_text.specs.Stream.{Streamed, Taken, printed, printedAtEnd, feedOf, fedOutput, longestLine}
 use Rattle.unit_text.proofs.PrintLaws.{overwrite-none}
 use Rattle.unit_text.proofs.StreamLaws.{printed-end}
-use Rattle.unit_text.proofs.HandLaws.{fits-reply, fits-output}
+use Rattle.base.proofs.HandLaws.{fits-reply, fits-output}
 use Rattle.unit_text.proofs.FedLaws.{fed-text, fed-within, fed-some}
 
 module _ (s : Streamed) where

@@ -18,7 +18,6 @@ pub mod WrittenLine
 pub mod PairsLaws
 pub mod WholeLine
 pub mod WireRead
-pub mod HandLaws
 pub mod FedLaws
 pub mod FinishLaws
 pub mod Passing

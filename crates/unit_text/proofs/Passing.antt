@@ -10,12 +10,13 @@ use Rattle.base.specs.Choice.{pick}
 use Rattle.base.specs.Reply.{Reply, accepted, refused}
 use Rattle.base.specs.BigEndian.{overwrite}
 use Rattle.base.proofs.BigEndianLaws.{overwrite-append, overwrite-front}
-use Rattle.unit_text.specs.Session.{sessionText, handedReply, handedOutput}
+use Rattle.base.specs.Handed.{handedReply, handedOutput}
+use Rattle.unit_text.specs.Session.{sessionText}
 use Rattle.unit_text.specs.Stream.{Streamed, Taken, atStart, after, printed, printedAtEnd, feedOf, fedOutput}
 use Rattle.unit_text.proofs.PrintLaws.{overwrite-none}
 use Rattle.unit_text.proofs.StreamLaws.{after-on, printed-append, end-length}
 use Rattle.unit_text.proofs.SessionLaws.{streamed-session}
-use Rattle.unit_text.proofs.HandLaws.{fits-reply, fits-output, short-reply}
+use Rattle.base.proofs.HandLaws.{fits-reply, fits-output, short-reply}
 use Rattle.unit_text.proofs.FedLaws.{fed-stream, fed-written, fed-within, fed-some, fed-fits, fed-text}
 
 pub record Passing (text out₀ : List ℕ) (writes : Bool) (s : Streamed) (piece out : List ℕ) (used written : ℕ) : Type 0 where

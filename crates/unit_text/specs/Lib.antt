@@ -6,5 +6,4 @@ pub mod Cut
 pub mod Answering
 pub mod WireLine
 pub mod Streams
-pub mod Handed
 pub mod Traced

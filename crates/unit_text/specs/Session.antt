@@ -1,11 +1,10 @@
 -- A session (document 01, 'Records'): the lines of a text, each answered by the unit that the one before left.
 use Prim.Native.Nat.{ℕ}
 use mathlib.Core.List.{List, [], _∷_, _++_}
-use lib.Dec.{eqb, leb}
+use lib.Dec.{eqb}
 use lib.ListN.{length}
 use Rattle.base.specs.Choice.{pick}
 use Rattle.base.specs.Reply.{Reply, accepted, refused}
-use Rattle.base.specs.BigEndian.{overwrite}
 use Rattle.esc_unit.specs.Unit.{Replied, refusing, callOf, neverOpened}
 use Rattle.esc_records.specs.Answer.{replyBytes}
 use Rattle.esc_unit.specs.declared.unit.Unit.{Unit}
@@ -45,11 +44,3 @@ linesText u (line ∷ lines) = lineText u line ++ linesText (unitAfter u line) l
 
 unfoldable pub sessionText : List ℕ → List ℕ
 sessionText text = linesText neverOpened (linesOf text)
-
--- a text handed over in a lent output: how much was written, or 9 where the output is shorter
-unfoldable pub handedReply : List ℕ → ℕ → Reply ℕ
-handedReply text room = pick (leb (length text) room) (accepted (length text)) (refused 9)
-
--- the lent output afterwards: the text from its first entry on and the rest as found; all as found where it is refused
-unfoldable pub handedOutput : List ℕ → List ℕ → List ℕ
-handedOutput text out = pick (leb (length text) (length out)) (overwrite 0 text out) out

@@ -9,7 +9,6 @@ mod stream;
 mod whole_session;
 mod wire_line;
 
-pub use hand::Handed;
 pub use stream::Fed;
 pub use stream::LONGEST_LINE;
 pub use stream::Stream;

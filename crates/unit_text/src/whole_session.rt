@@ -5,11 +5,13 @@ ghost use Prim.Native.Nat.{_≤_};
 ghost use lib.ListN.{length};
 ghost use Rattle.base.specs.Choice.{pick};
 ghost use Rattle.base.specs.BigEndian.{overwrite};
-ghost use Rattle.unit_text.specs.Session.{sessionText, handedReply, handedOutput};
-ghost use Rattle.unit_text.specs.Handed.{handed, numberOf, countAfter};
-use crate::hand::Handed;
+ghost use Rattle.base.specs.Handed.{handedReply, handedOutput};
+ghost use Rattle.unit_text.specs.Session.{sessionText};
+ghost use Rattle.base.specs.Handed.{handed, countAfter};
+ghost use Rattle.base.specs.Reply.{numberOf};
 use crate::hand::copy_if;
 use crate::stream::Stream;
+use base::Handed;
 
 // How much is printed before it is copied.
 const PIECE: usize = 4096;

@@ -1,9 +1,9 @@
 // The program: lines of records from standard input, a line with the answer to each on standard
 // output. It only reads and writes; what is printed is the stream's.
+use base::Handed;
 use libc::STDERR_FILENO;
 use libc::STDIN_FILENO;
 use libc::STDOUT_FILENO;
-use unit_text::Handed;
 use unit_text::Stream;
 ghost use mathlib.Core.Path.{_≡_};
 ghost use mathlib.Core.Bool.{true};

@@ -5,8 +5,8 @@ use mathlib.Core.Path.{sym, ap, _∙_}
 use lib.Seq.{length-take-le}
 use Rattle.unit_text.specs.Stream.{printedAtEnd}
 use Rattle.unit_text.specs.Streams.{streamed}
-use Rattle.unit_text.specs.Handed.{handed}
-use Rattle.unit_text.proofs.HandLaws.{told-within}
+use Rattle.base.specs.Handed.{handed}
+use Rattle.base.proofs.HandLaws.{told-within}
 use Rattle.unitlines.proofs.finish.Statement.{statement}
 use Rattle.unitlines.proofs.finish.Tie as tie
 

@@ -177,5 +177,5 @@ field-spec 𝓤 H 𝓜 𝓖 𝓡 =
     entered 𝓤 H (tripleOf 𝓤 H (𝓖 .A) field.signature (field.spec 𝓤 H (𝓖 .A) (𝓜 .mem) (𝓡 .run)))
     (tables 𝓤 H 𝓜 𝓡 code.env .C) (tables 𝓤 H 𝓜 𝓡 code.env .Λ) #field code.function (code.unfolded 𝓤 H 𝓜 𝓡)
     (field-meets 𝓤 H (𝓖 .A) (givenOf 𝓤 H 𝓜 𝓖) (𝓜 .mem) (𝓡 .run) (tablesOf 𝓤 H 𝓜 (tables 𝓤 H 𝓜 𝓡 code.env))
-    (cited 𝓤 H (New 𝓤 H (𝓖 .A) (𝓜 .mem) (𝓡 .run)) 𝓜 𝓡 code.env #new new-def.routine code.calls-esc-unit·reader·Reader·new (new-thm.met 𝓤 H 𝓜 𝓖 𝓡))
-    (cited 𝓤 H (Number 𝓤 H (𝓖 .A) (𝓜 .mem) (𝓡 .run)) 𝓜 𝓡 code.env #number number-def.routine code.calls-esc-unit·reader·Reader·number (number-thm.met 𝓤 H 𝓜 𝓖 𝓡)))
+    (cited 𝓤 H (New 𝓤 H (𝓖 .A) (𝓜 .mem) (𝓡 .run)) 𝓜 𝓡 code.env #new new-def.routine code.calls-esc-records·reader·Reader·new (new-thm.met 𝓤 H 𝓜 𝓖 𝓡))
+    (cited 𝓤 H (Number 𝓤 H (𝓖 .A) (𝓜 .mem) (𝓡 .run)) 𝓜 𝓡 code.env #number number-def.routine code.calls-esc-records·reader·Reader·number (number-thm.met 𝓤 H 𝓜 𝓖 𝓡)))

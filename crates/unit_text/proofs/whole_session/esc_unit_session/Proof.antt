@@ -3,7 +3,8 @@ use borrow.Author.Needs.{needs}
 use mathlib.Core.Path.{sym, ap, _∙_}
 use Prim.Native.Nat.{ℕ}
 use Rattle.base.specs.Reply.{Reply}
-use Rattle.unit_text.specs.Handed.{handed, numberOf, countAfter}
+use Rattle.base.specs.Handed.{handed, countAfter}
+use Rattle.base.specs.Reply.{numberOf}
 use Rattle.unit_text.proofs.whole_session.esc_unit_session.Statement.{statement}
 use Rattle.unit_text.proofs.whole_session.esc_unit_session.Tie as tie
 

@@ -5,7 +5,7 @@ use mathlib.Core.Path.{sym, ap, _∙_}
 use Prim.Native.Nat.{_-_}
 use lib.ListN.{length}
 use Rattle.unit_text.specs.Streams.{streamed}
-use Rattle.unit_text.specs.Handed.{handed}
+use Rattle.base.specs.Handed.{handed}
 use Rattle.unit_text.proofs.StreamLaws.{end-length}
 use Rattle.unit_text.proofs.Feeding.{part-left}
 use Rattle.unit_text.proofs.Passing.{Passing, passing-none, passing-within, passing-some, piece-fits, passing-short, passing-more, end-count, end-written, passing-end-short, passing-end}

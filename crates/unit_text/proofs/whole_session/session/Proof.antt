@@ -4,8 +4,8 @@ use native.Mathlib.Omega.{arith}
 use mathlib.Core.Path.{sym, ap, _∙_}
 use mathlib.Core.Bool.{false≢true}
 use Rattle.unit_text.specs.Session.{sessionText}
-use Rattle.unit_text.specs.Handed.{handed}
-use Rattle.unit_text.proofs.HandLaws.{fits-output, told-fits, told-space}
+use Rattle.base.specs.Handed.{handed}
+use Rattle.base.proofs.HandLaws.{fits-output, told-fits, told-space}
 use Rattle.unit_text.proofs.whole_session.session.Statement.{statement}
 use Rattle.unit_text.proofs.whole_session.session.Tie as tie
 

@@ -5,7 +5,7 @@ use mathlib.Core.Path.{_≡_, refl, ap, _∙_}
 use mathlib.Core.List.{List}
 use Prim.Native.Nat.{ℕ}
 use lib.ListN.{length, length-take}
-use Rattle.unit_text.specs.Session.{handedReply, handedOutput}
+use Rattle.base.specs.Handed.{handedReply, handedOutput}
 use Rattle.unit_text.proofs.FedLaws.{fed-fits}
 use Rattle.unit_text.proofs.FinishLaws.{finish-none, finish-some}
 use Rattle.unit_text.proofs.stream.Stream.finish.Statement.{statement}

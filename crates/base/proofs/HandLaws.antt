@@ -1,17 +1,17 @@
--- A text handed over in a lent output, where it fits and where it does not; and copying it.
+-- Bytes handed over in a lent output, where they fit and where they do not; and copying them.
 use mathlib.Core.Path.{_≡_, sym, ap, _∙_}
 use mathlib.Core.List.{List, [], _∷_}
-use Prim.Native.Nat.{ℕ, _+_, _≤_, _<_}
+use Prim.Native.Nat.{ℕ, _+_, _≤_, _<_, min}
 use native.Mathlib.Omega.{arith}
 use native.Mathlib.Numerals.{add-one}
 use borrow.Author.Tests.{le-leb, lt-leb}
 use lib.ListN.{length, getD, set, take}
-use lib.Seq.{take-suc, length-take-le}
+use lib.Seq.{take-suc, take-all, length-take-le}
 use Rattle.base.specs.Reply.{accepted, refused}
 use Rattle.base.specs.BigEndian.{overwrite}
 use Rattle.base.proofs.ByCases.{below-or-not}
 use Rattle.base.proofs.BigEndianLaws.{overwrite-append, overwrite-set}
-use Rattle.unit_text.specs.Session.{handedReply, handedOutput}
+use Rattle.base.specs.Handed.{handedReply, handedOutput, copied}
 
 module _ (text out : List ℕ) where
   pub fits-reply : length text ≤ length out → handedReply text (length out) ≡ accepted (length text)
@@ -56,7 +56,26 @@ module _ (text out : List ℕ) where
       let z : _≡_ {A = ℕ} 0 1 = cc in
       absurd (omega arith))
 
--- one character more
+-- no more than there are
+pub take-min : (n : ℕ) (text : List ℕ) → take (min n (length text)) text ≡ take n text
+take-min n text =
+    below-or-not n (length text)
+    (λ h. let e : min n (length text) ≡ n = omega arith in rw e)
+    (λ h.
+    let e : min n (length text) ≡ length text = omega arith in
+    let all : length text ≤ length text = omega arith in
+    rw (e, take-all (length text) text all, take-all n text h))
+
+module _ (at : ℕ) (text out : List ℕ) where
+  pub copied-fits : at + length text ≤ length out → copied at text out ≡ overwrite at text out
+  unfolding copied
+  copied-fits h = rw (le-leb (at + length text) (length out) h)
+
+  pub copied-short : length out < at + length text → copied at text out ≡ out
+  unfolding copied
+  copied-short h = rw (lt-leb (at + length text) (length out) h)
+
+-- one byte more
 pub copy-more : (text out₀ out : List ℕ) (at i : ℕ) → i < length text → at + i < length out₀ → length out ≡ length out₀
     → out ≡ overwrite at (take i text) out₀ → set out (at + i) (getD text i 0) ≡ overwrite at (take (i + 1) text) out₀
 copy-more text out₀ out at i h room l e =

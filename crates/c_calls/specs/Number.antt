@@ -1,7 +1,0 @@
--- What a call for C answers: 0 where it is accepted, else document 01's number.
-use Prim.Native.Nat.{ℕ}
-use Rattle.base.specs.Reply.{Reply, accepted, refused}
-
-abbrev pub numberOf : {A : Type 0} → Reply A → ℕ
-numberOf (accepted a) = 0
-numberOf (refused number) = number
