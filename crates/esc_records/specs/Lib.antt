@@ -1,4 +1,3 @@
 pub mod Record
 pub mod Whole
 pub mod Answer
-pub mod Write

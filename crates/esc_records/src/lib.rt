@@ -1,6 +1,5 @@
 // Records and answers: bytes to typed records, typed answers to bytes. No public function has a `requires`.
 mod answer;
-mod answer_len;
 mod fields;
 mod put;
 mod put_parts;
@@ -19,5 +18,7 @@ pub use answer::WireAnswer;
 pub use record::Record;
 pub use record::RecordRead;
 pub use record::read_record;
-pub use write::AnswerWritten;
+pub use write::AnswerText;
+pub use write::LONGEST_ANSWER;
+pub use write::answer_text;
 pub use write::write_answer;

@@ -1,13 +1,13 @@
 // An answer's bytes: 00, and behind it what document 01 gives for its kind.
 ghost use mathlib.Core.Path.{_≡_};
-ghost use Rattle.esc_records.specs.Answer.{nextBytes, ackBytes, timeoutBytes, wireBytes, backBytes, storedBytes, bodyBytes};
+ghost use lib.ListN.{length, take};
+ghost use Rattle.base.specs.Handed.{handed, handedReply, handedOutput};
+ghost use Rattle.esc_records.specs.Answer.{nextBytes, ackBytes, timeoutBytes, wireBytes, backBytes, storedBytes, bodyBytes, answerBytes};
 ghost use Rattle.base.specs.Put.{Room, Put};
-ghost use Rattle.esc_records.specs.Write.{writeReply, written, answerWritten};
 use crate::answer::AckAnswer;
 use crate::answer::Answer;
 use crate::answer::StoredAnswer;
 use crate::answer::WireAnswer;
-use crate::answer_len::answer_len;
 use crate::put::put_byte;
 use crate::put::put_flag;
 use crate::put::put_number;
@@ -17,27 +17,39 @@ use crate::put_parts::put_idle;
 use crate::put_parts::put_marked_request;
 use crate::put_parts::put_marked_sample;
 use crate::put_parts::put_report;
+use base::Handed;
+use base::hand;
 use esc_feedback::BackAfterRetries;
 use esc_feedback::EscManagerTimeout;
 use esc_feedback::NextRequest;
 
-pub enum AnswerWritten {
-    // How many bytes.
-    Written(usize),
-    // Fewer entries were lent than the answer has bytes.
-    Space,
+// As much as any answer takes.
+pub const LONGEST_ANSWER: usize = 43;
+
+// An answer's bytes in front, and how many they are.
+pub struct AnswerText {
+    pub len: usize,
+    pub bytes: [u8; LONGEST_ANSWER],
+}
+
+// The bytes of an answer, for a caller that has room for any.
+pub fn answer_text(answer: Answer) -> AnswerText
+    ensures { λ r. ⌜ (r .len ≡ length (answerBytes answer)) × (take (r .len) (r .bytes) ≡ answerBytes answer) ⌝ }
+{
+    let mut bytes = [0u8; LONGEST_ANSWER];
+    let body = put_byte(&mut bytes, 0, 0x00);
+    let len = put_body(&mut bytes, body, answer);
+    AnswerText { len, bytes }
 }
 
 // Writes the answer at the start of out, and leaves the rest of it as it is.
-pub fn write_answer(answer: Answer, out: &mut [u8]) -> AnswerWritten
-    ensures { λ r. ⌜ answerWritten r ≡ writeReply answer (now (out .entry)) ⌝ }
-    ensures { λ _. ⌜ now (out .exit) ≡ written answer (now (out .entry)) ⌝ }
+pub fn write_answer(answer: Answer, out: &mut [u8]) -> Handed
+    ensures { λ r. ⌜ handed r ≡ handedReply (answerBytes answer) (length (now (out .entry))) ⌝ }
+    ensures { λ _. ⌜ now (out .exit) ≡ handedOutput (answerBytes answer) (now (out .entry)) ⌝ }
 {
-    if out.len() < answer_len(answer) {
-        return AnswerWritten::Space;
-    }
-    let body = put_byte(out, 0, 0x00);
-    AnswerWritten::Written(put_body(out, body, answer))
+    let text = answer_text(answer);
+    let bytes = text.bytes;
+    hand(&bytes, text.len, out)
 }
 
 fn put_body(out: &mut [u8], at: usize, answer: Answer) -> usize

@@ -11,7 +11,7 @@ use Rattle.base.specs.Reply.{Reply, accepted, refused, isAccepted}
 use Rattle.esc_records.specs.Answer.{answerBytes}
 use Rattle.esc_unit.specs.Unit.{Replied, refusing, accepting, outputAfter, lengthOf}
 use Rattle.esc_unit.specs.Admission.{roomed}
-use Rattle.esc_records.specs.Write.{writeReply, written}
+use Rattle.base.specs.Handed.{handedReply, handedOutput}
 use Rattle.esc_unit.specs.Replies.{callReply}
 use Rattle.esc_records.specs.declared.answer.Answer.{Answer}
 use Rattle.esc_unit.specs.declared.unit.Unit.{Unit}
@@ -32,8 +32,8 @@ told true n = refl
 told false n = refl
 
 -- the reply to the writing tells whether there was room
-room-told : (a : Answer) (out : List ℕ) (q : Reply ℕ) → q ≡ writeReply a out → leb (length (answerBytes a)) (length out) ≡ isAccepted q
-unfolding writeReply
+room-told : (a : Answer) (out : List ℕ) (q : Reply ℕ) → q ≡ handedReply (answerBytes a) (length out) → leb (length (answerBytes a)) (length out) ≡ isAccepted q
+unfolding handedReply
 room-told a out q w = sym (ap isAccepted w ∙ told (leb (length (answerBytes a)) (length out)) _)
 
 module _ (u : Unit) (before after : List ℕ) where
@@ -44,18 +44,18 @@ module _ (u : Unit) (before after : List ℕ) where
       subst (λ (x : Called). Meets x before after k) (sym ec)
       (subst (λ (x : Replied). Meets (handed u n) before after x) (sym ek) (refl, (refl, eo)))
 
-  module _ (s : Stepped) (o : after ≡ written (s .answer) before) where
-    pub meets-space : (c : Called) → c ≡ handed u 9 → refused 9 ≡ writeReply (s .answer) before
+  module _ (s : Stepped) (o : after ≡ handedOutput (answerBytes (s .answer)) before) where
+    pub meets-space : (c : Called) → c ≡ handed u 9 → refused 9 ≡ handedReply (answerBytes (s .answer)) (length before)
         → Meets c before after (roomed u (length before) s)
-    unfolding written
+    unfolding handedOutput
     meets-space c ec w =
         let l = room-told (s .answer) before (refused 9) w in
         meets-refusal 9 c _ ec (ap (λ (b : Bool). pick b (accepting s) (refusing u 9)) l)
         (o ∙ ap (λ (b : Bool). pick b (overwrite 0 (answerBytes (s .answer)) before) before) l)
 
-    pub meets-answer : (v : Unit) (n : ℕ) → v ≡ s .unit → accepted n ≡ writeReply (s .answer) before
+    pub meets-answer : (v : Unit) (n : ℕ) → v ≡ s .unit → accepted n ≡ handedReply (answerBytes (s .answer)) (length before)
         → Meets (record { unit = v; reply = call.Written n }) before after (roomed u (length before) s)
-    unfolding writeReply written outputAfter
+    unfolding handedReply handedOutput outputAfter
     meets-answer v n eu w =
         let l = room-told (s .answer) before (accepted n) w in
         subst (λ (b : Bool). Meets (record { unit = v; reply = call.Written n }) before after (pick b (accepting s) (refusing u 9))) (sym l) (

@@ -19,7 +19,7 @@ use Rattle.unit_text.specs.Stream.{Streamed, after, printed, taken, feed
 use Rattle.unit_text.specs.Cut.{firstLine, CutFrom}
 use Rattle.unit_text.specs.Answering.{Answers, PrintedAt}
 use Rattle.unit_text.specs.declared.cut.Cut.the-variants.{Open}
-use Rattle.unit_text.proofs.PrintLaws.{overwrite-none}
+use Rattle.base.proofs.PutLaws.{overwrite-none}
 use Rattle.unit_text.proofs.LinesLaws.{Unended}
 use Rattle.unit_text.proofs.FirstLine.{first-unended, first-split}
 use Rattle.unit_text.proofs.StreamLaws.{after-append, printed-append, line-length}
@@ -52,7 +52,7 @@ feeding-none unit line held chunk out bytes l h b =
       stream = refl;
       count = refl;
       fits = omega arith;
-      text = overwrite-none 0 out;
+      text = sym (overwrite-none 0 out);
       rest = rw all (omega arith);
     }
 

@@ -9,7 +9,7 @@ use Rattle.base.specs.Reply.{accepted}
 use Rattle.unit_text.specs.Line.{lineEnd}
 use Rattle.base.specs.Handed.{handedReply, handedOutput}
 use Rattle.unit_text.specs.Stream.{Streamed, Taken, printed, printedAtEnd, feedOf, fedOutput, longestLine}
-use Rattle.unit_text.proofs.PrintLaws.{overwrite-none}
+use Rattle.base.proofs.PutLaws.{overwrite-none}
 use Rattle.unit_text.proofs.StreamLaws.{printed-end}
 use Rattle.base.proofs.HandLaws.{fits-reply, fits-output}
 use Rattle.unit_text.proofs.FedLaws.{fed-text, fed-within, fed-some}
@@ -26,7 +26,7 @@ module _ (s : Streamed) where
   -- no line was begun
   pub finish-none : (out : List ℕ) → length (s .line) ≡ 0
       → (accepted 0 ≡ handedReply (printedAtEnd s) (length out)) × (out ≡ handedOutput (printedAtEnd s) out)
-  finish-none out e = rw (end-none e) (sym (fits-reply [] out (omega arith)), overwrite-none 0 out ∙ sym (fits-output [] out (omega arith)))
+  finish-none out e = rw (end-none e) (sym (fits-reply [] out (omega arith)), sym (overwrite-none 0 out) ∙ sym (fits-output [] out (omega arith)))
 
   -- an LF fed to the stream answers the line
   pub finish-some : (text text′ : List ℕ) (t : Taken) → (length (s .line) ≡ 0 → ⊥) → length text ≡ longestLine

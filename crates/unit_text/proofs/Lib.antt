@@ -14,7 +14,6 @@ pub mod SessionLaws
 pub mod LineTurn
 pub mod Feeding
 pub mod AnswersLaws
-pub mod WrittenLine
 pub mod PairsLaws
 pub mod WholeLine
 pub mod WireRead

@@ -13,7 +13,7 @@ use Rattle.base.proofs.BigEndianLaws.{overwrite-append, overwrite-front}
 use Rattle.base.specs.Handed.{handedReply, handedOutput}
 use Rattle.unit_text.specs.Session.{sessionText}
 use Rattle.unit_text.specs.Stream.{Streamed, Taken, atStart, after, printed, printedAtEnd, feedOf, fedOutput}
-use Rattle.unit_text.proofs.PrintLaws.{overwrite-none}
+use Rattle.base.proofs.PutLaws.{overwrite-none}
 use Rattle.unit_text.proofs.StreamLaws.{after-on, printed-append, end-length}
 use Rattle.unit_text.proofs.SessionLaws.{streamed-session}
 use Rattle.base.proofs.HandLaws.{fits-reply, fits-output, short-reply}
@@ -35,7 +35,7 @@ passing-none text out writes s piece r e =
     record { within = omega arith; room = r; long = refl; stream = e; count = refl; fits = omega arith; copied = same writes }
   where
     same : (b : Bool) → out ≡ pick b (overwrite 0 [] out) out
-    same true = overwrite-none 0 out
+    same true = sym (overwrite-none 0 out)
     same false = refl
 
 -- the first part, then the second behind it

@@ -3,9 +3,8 @@ use mathlib.Core.Path.{_≡_, refl, ap, sym, _∙_}
 use mathlib.Core.List.{List, [], _∷_, _++_}
 use Prim.Native.Nat.{ℕ, _+_, _*_, _/_, _%_, _≤_, _<_}
 use native.Mathlib.Omega.{arith}
-use native.Mathlib.Nat.{add-zero}
 use native.Mathlib.Numerals.{add-one}
-use lib.ListN.{length, getD, set, take, length-append, take-append-drop}
+use lib.ListN.{length, getD, set, take, length-append}
 use lib.Seq.{take-suc, take-all, length-take-le}
 use Rattle.base.specs.BigEndian.{overwrite}
 use Rattle.base.proofs.BigEndianLaws.{overwrite-append, overwrite-set, overwrite-two}
@@ -57,8 +56,3 @@ module _ (bytes : List ℕ) (i : ℕ) where
       let r : next < length out = omega arith in
       let all : out ≡ overwrite at (hexOf bytes) out₀ = rw (← take-all i bytes h) e in
       sym (overwrite-set next 0x0a out r) ∙ rw all (overwrite-append at next (hexOf bytes) (0x0a ∷ []) out₀ n room)
-
--- nothing is written at first
-pub overwrite-none : (at : ℕ) (out : List ℕ) → out ≡ overwrite at [] out
-unfolding overwrite
-overwrite-none at out = rw (add-zero at, take-append-drop at out)

@@ -10,13 +10,9 @@ ghost use Rattle.unit_text.specs.Answering.{takenBy, PrintedAt};
 use crate::line::LineRead;
 use crate::line::print_line;
 use esc_records::Answer;
-use esc_records::AnswerWritten;
-use esc_records::write_answer;
+use esc_records::answer_text;
 use esc_unit::Admitted;
 use esc_unit::admit;
-
-// As much as any answer takes.
-const LONGEST_ANSWER: usize = 43;
 
 // The record that a line stands for, in front of `bytes`, if a unit that was opened, or was not, takes it.
 pub(crate) fn take(opened: bool, read: LineRead, bytes: &[u8]) -> Admitted
@@ -33,13 +29,10 @@ pub(crate) fn print_answer(answer: Answer, out: &mut [u8], at: usize) -> usize
     requires { ⌜ at + 87 ≤ length (now out) ⌝ }
     ensures { λ r. ⌜ PrintedAt (answerBytes answer) at (now (out .entry)) r (now (out .exit)) ⌝ }
 {
-    let mut buffer = [0u8; LONGEST_ANSWER];
-    let written = write_answer(answer, &mut buffer);
-    let AnswerWritten::Written(n) = written else {
-        // no answer is longer than the buffer
-        return at;
-    };
-    print_line(&buffer[..n], out, at)
+    let text = answer_text(answer);
+    let bytes = text.bytes;
+    let n = text.len;
+    print_line(&bytes[..n], out, at)
 }
 
 pub(crate) fn print_refusal(number: u8, out: &mut [u8], at: usize) -> usize

@@ -8,7 +8,7 @@ ghost use Rattle.esc_unit.specs.Replies.{callReply};
 use crate::unit::Admitted;
 use crate::unit::Unit;
 use crate::unit::admit;
-use esc_records::AnswerWritten;
+use base::Handed;
 use esc_records::Record;
 use esc_records::write_answer;
 
@@ -47,7 +47,7 @@ impl Unit {
         let stepped = self.stepped(record);
         let answer = stepped.answer;
         let written = write_answer(answer, out);
-        let AnswerWritten::Written(count) = written else {
+        let Handed::Written(count) = written else {
             return self.refused(9);
         };
         let unit = stepped.unit;

@@ -6,7 +6,8 @@ use Prim.Native.Nat.{_+_, _*_, _≤_, _-_}
 use lib.ListN.{length, take, length-set}
 use Rattle.base.specs.BigEndian.{overwrite}
 use Rattle.unit_text.specs.Line.{hexOf}
-use Rattle.unit_text.proofs.PrintLaws.{printed-length, overwrite-none, print-more, print-end}
+use Rattle.unit_text.proofs.PrintLaws.{printed-length, print-more, print-end}
+use Rattle.base.proofs.PutLaws.{overwrite-none}
 use Rattle.unit_text.proofs.line.print_line.Statement.{statement}
 use Rattle.unit_text.proofs.line.print_line.Tie as tie
 
@@ -18,7 +19,7 @@ abbrev μ-loop : tie.MeasureT-loop
 
 loop-holds : tie.Need-loop-holds Inv-loop μ-loop
 unfolding hexOf
-loop-holds c = let a = c .before .before .args in (omega arith, omega arith, refl, overwrite-none (a .at) (a .out .now))
+loop-holds c = let a = c .before .before .args in (omega arith, omega arith, refl, sym (overwrite-none (a .at) (a .out .now)))
 
 shared-slice-read-byte : tie.Need-shared-slice-read-byte Inv-loop μ-loop
 shared-slice-read-byte c = search needs

@@ -14,8 +14,8 @@ mul-old c = omega (arith, lane-below (c .before .before .args .update .output .0
 element-copy-out-old : tie.Need-element-copy-out-old
 element-copy-out-old c = omega (arith, lane-below (c .before .before .args .update .output .0))
 
-with-requires : tie.Need-with-requires
-with-requires c κs = search needs
+with-sample-requires : tie.Need-with-sample-requires
+with-sample-requires c κs = search needs
 
 mul-figure : tie.Need-mul-figure
 mul-figure c = omega (arith, lane-below (c .before .before .before .before .before .args .update .output .0))
@@ -24,7 +24,7 @@ element-set-from-figure : tie.Need-element-set-from-figure
 element-set-from-figure c = omega (arith, lane-below (c .before .before .before .before .before .args .update .output .0))
 
 returns : tie.Need-returns
-returns c = rw (c .with .ensures, c .before .before .before .index .ensures)
+returns c = rw (c .with-sample .ensures, c .before .before .before .index .ensures)
 
 pub with-spec : {M : Type 1} → statement M
 with-spec =
@@ -33,7 +33,7 @@ with-spec =
     index-requires
     mul-old
     element-copy-out-old
-    with-requires
+    with-sample-requires
     mul-figure
     element-set-from-figure
     returns)

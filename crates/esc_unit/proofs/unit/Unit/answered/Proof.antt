@@ -1,6 +1,6 @@
 -- One law for want of room, one for the answer.
 use mathlib.Core.Path.{refl, sym, ap, _∙_}
-use Rattle.esc_records.specs.Write.{answerWritten}
+use Rattle.base.specs.Handed.{handed}
 use Rattle.esc_unit.proofs.CallLaws.{meets-space, meets-answer}
 use borrow.Author.Needs.{needs}
 use Rattle.esc_unit.proofs.unit.Unit.answered.Statement.{statement}
@@ -30,7 +30,7 @@ returns c =
     let s = c .before .before .before .before .before .before .before .stepped in
     let a = c .before .before .before .before .before .before .before .before .before .args in
     rw (← s .ensures)
-    (meets-space (a .self) _ _ (s .result) (w .ensures .1) _ (c .refused .ensures) (sym (ap answerWritten (c .before .enum-told .given .1)) ∙ w .ensures .0))
+    (meets-space (a .self) _ _ (s .result) (w .ensures .1) _ (c .refused .ensures) (sym (ap handed (c .before .enum-told .given .1)) ∙ w .ensures .0))
 
 same-length-2 : tie.Need-same-length-2
 same-length-2 c = search needs
@@ -41,7 +41,7 @@ returns-2 c =
     let s = c .before .before .before .before .before .before .before .before .stepped in
     let a = c .before .before .before .before .before .before .before .before .before .before .args in
     rw (← s .ensures)
-    (meets-answer (a .self) _ _ (s .result) (w .ensures .1) _ _ refl (sym (ap answerWritten (c .before .before .written .given .1)) ∙ w .ensures .0))
+    (meets-answer (a .self) _ _ (s .result) (w .ensures .1) _ _ refl (sym (ap handed (c .before .before .written .given .1)) ∙ w .ensures .0))
 
 pub answered-spec : {M : Type 1} → statement M
 answered-spec =
