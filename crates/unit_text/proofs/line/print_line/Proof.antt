@@ -1,7 +1,7 @@
 -- What is written so far is the characters of the bytes passed.
 use borrow.Author.Needs.{needs}
 use native.Mathlib.Omega.{arith}
-use mathlib.Core.Path.{_≡_, refl}
+use mathlib.Core.Path.{_≡_, refl, sym}
 use Prim.Native.Nat.{_+_, _*_, _≤_, _-_}
 use lib.ListN.{length, take, length-set}
 use Rattle.base.specs.BigEndian.{overwrite}
