@@ -8,4 +8,6 @@ pub mod BooksLaws
 pub mod StepLaws
 pub mod UnitLaws
 pub mod CallLaws
-pub mod Cases
+pub mod Rising
+pub mod RecordCases
+pub mod AnswerCases
