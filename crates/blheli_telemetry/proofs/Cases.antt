@@ -1,11 +1,13 @@
--- Document 01's 'Cases for the proved table' that speak of the CRC and the frame, of the rules themselves, by computation.
+-- Document 01's 'Cases for the proved table' that speak of the CRC and the frame, and the frame's layout by a frame in which no two
+-- bytes are equal: of the rules themselves, by computation.
 use mathlib.Core.Path.{_≡_, refl}
-use mathlib.Core.List.{[], _∷_, _++_}
+use mathlib.Core.List.{List, [], _∷_, _++_}
 use Prim.Native.Nat.{ℕ}
 use lib.ListN.{replicate}
-use Rattle.base.specs.BigEndian.{numberAt}
+use Rattle.base.specs.Reply.{accepted}
+use Rattle.base.specs.BigEndian.{numberAt, bytesOf}
 use Rattle.blheli_telemetry.specs.Crc.{crcBit, crcBits, crcByte, crcFrom, crcOf}
-use Rattle.blheli_telemetry.specs.Frame.{telemetryOf, readFrame}
+use Rattle.blheli_telemetry.specs.Frame.{telemetryOf, payloadOf, frameOf, readFrame}
 use Rattle.blheli_telemetry.specs.Stream.{givenAfter, heldAfter, framed}
 use Rattle.blheli_telemetry.specs.declared.frame.EscTelemetry.{EscTelemetry}
 use Rattle.blheli_telemetry.specs.declared.parser.Parsed.the-variants.{Sample, Nothing}
@@ -21,6 +23,20 @@ turning erpm =
       «erpm_div100» = erpm;
     }
 
+-- a frame in which no two bytes are equal, and its fields
+abbrev tenBytes : List ℕ
+tenBytes = 0x01 ∷ 0x02 ∷ 0x03 ∷ 0x04 ∷ 0x05 ∷ 0x06 ∷ 0x07 ∷ 0x08 ∷ 0x09 ∷ 0x85 ∷ []
+
+abbrev fiveFields : EscTelemetry
+fiveFields =
+    record {
+      «temperature_c» = 0x01;
+      «voltage_cv» = 0x0203;
+      «current_ca» = 0x0405;
+      «consumption_mah» = 0x0607;
+      «erpm_div100» = 0x0809;
+    }
+
 pub record FrameCases : Type 0 where
   -- CRC of nothing is 00, of the byte 80 is 89, of ASCII "123456789" is f4
   pub crc-nothing : crcOf [] ≡ 0x00
@@ -30,9 +46,12 @@ pub record FrameCases : Type 0 where
   pub ten-zeros : framed [] (replicate 10 0x00) ≡ replicate 9 Nothing ++ Sample (turning 0) ∷ []
   pub erpm-30 : framed [] (replicate 8 0x00 ++ 0x1e ∷ 0x5a ∷ []) ≡ replicate 9 Nothing ++ Sample (turning 30) ∷ []
   pub bad-check : framed [] (replicate 8 0x00 ++ 0x1e ∷ 0x5b ∷ []) ≡ replicate 10 Nothing
+  -- ten bytes: temperature; then voltage, current, consumption, eRPM divided by 100, each 16 bits; then CRC-8 of the nine
+  pub layout-read : readFrame tenBytes ≡ accepted fiveFields
+  pub layout-written : frameOf fiveFields ≡ tenBytes
 
 pub frame-cases : FrameCases
-unfolding crcBit crcBits crcByte crcFrom crcOf numberAt telemetryOf readFrame givenAfter heldAfter framed
+unfolding crcBit crcBits crcByte crcFrom crcOf numberAt bytesOf telemetryOf payloadOf frameOf readFrame givenAfter heldAfter framed
 frame-cases =
     record {
       crc-nothing = refl;
@@ -41,4 +60,6 @@ frame-cases =
       ten-zeros = refl;
       erpm-30 = refl;
       bad-check = refl;
+      layout-read = refl;
+      layout-written = refl;
     }

@@ -146,7 +146,7 @@ impl StreamParser {
     pub fn reset(&mut self)
         ensures { λ _. ⌜ now (self .exit) ≡ resetOf (now (self .entry)) ⌝ }
     {
-        self.len = 0;
+        *self = (*self).emptied();
     }
 }
 

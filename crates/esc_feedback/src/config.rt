@@ -34,3 +34,16 @@ impl EscManagerConfig {
         }
     }
 }
+
+// The two constants with their values stated, since a contract can't name a constant.
+pub fn esc_request_expiry_ms() -> u32
+    ensures { λ r. ⌜ r ≡ 20 ⌝ }
+{
+    ESC_REQUEST_EXPIRY_MS
+}
+
+pub fn esc_retry_backoff_steps() -> u32
+    ensures { λ r. ⌜ r ≡ 3 ⌝ }
+{
+    ESC_RETRY_BACKOFF_STEPS
+}

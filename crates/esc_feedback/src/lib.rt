@@ -19,6 +19,8 @@ pub use answer::WireUpdate;
 pub use config::ESC_REQUEST_EXPIRY_MS;
 pub use config::ESC_RETRY_BACKOFF_STEPS;
 pub use config::EscManagerConfig;
+pub use config::esc_request_expiry_ms;
+pub use config::esc_retry_backoff_steps;
 pub use fault::Fault;
 pub use manager::Acked;
 pub use manager::EscManager;

@@ -1,7 +1,7 @@
 // A physical motor output. It is no airframe motor number: the board map alone turns one into the
 // other.
 ghost use mathlib.Core.Path.{_≡_};
-ghost use Rattle.esc_feedback.specs.Output.{laneOf, nextOutput, sameOutput};
+ghost use Rattle.esc_feedback.specs.Output.{laneOf, outputAt, nextOutput, sameOutput};
 
 pub enum Lane {
     Output1,
@@ -13,6 +13,7 @@ pub enum Lane {
 pub struct EscOutput(pub Lane);
 
 impl EscOutput {
+    // The order in which the lanes turn. `index` is the place in it.
     pub const ALL: [EscOutput; 4] = [
         EscOutput(Lane::Output1),
         EscOutput(Lane::Output2),
@@ -20,6 +21,7 @@ impl EscOutput {
         EscOutput(Lane::Output4),
     ];
 
+    // The number of the lane, 0 to 3.
     pub fn index(self) -> usize
         ensures { λ r. ⌜ r ≡ laneOf self ⌝ }
     {
@@ -32,19 +34,25 @@ impl EscOutput {
         }
     }
 
-    // The output whose turn comes after this one's.
+    // The output that stands at `index` in `ALL`; past the last, the first again.
+    pub fn of_index(index: usize) -> EscOutput
+        ensures { λ r. ⌜ r ≡ outputAt index ⌝ }
+    {
+        let all = EscOutput::ALL;
+        if index < 4 {
+            return all[index];
+        }
+        all[0]
+    }
+
+    // The output whose turn comes after this one's: the next in `ALL`, and after the last the first.
     pub fn next(self) -> EscOutput
         ensures { λ r. ⌜ r ≡ nextOutput self ⌝ }
     {
-        let lane = self.0;
-        match lane {
-            Lane::Output1 => EscOutput(Lane::Output2),
-            Lane::Output2 => EscOutput(Lane::Output3),
-            Lane::Output3 => EscOutput(Lane::Output4),
-            Lane::Output4 => EscOutput(Lane::Output1),
-        }
+        EscOutput::of_index(self.index() + 1)
     }
 
+    // Whether two outputs are the same lane.
     pub fn same(self, other: EscOutput) -> bool
         ensures { λ r. ⌜ r ≡ sameOutput self other ⌝ }
     {

@@ -2,7 +2,6 @@
 ghost use mathlib.Core.Path.{_≡_};
 ghost use Rattle.esc_feedback.specs.Turn.{firstTurn, turnRequest, periodDue, turnAfter};
 use crate::output::EscOutput;
-use crate::output::Lane;
 use crate::request::EscActuatorRequest;
 use crate::stats::one_more;
 use base::elapsed_at_least;
@@ -22,7 +21,7 @@ impl Turn {
     pub fn new() -> Self
         ensures { λ r. ⌜ r ≡ firstTurn ⌝ }
     {
-        let output = EscOutput(Lane::Output1);
+        let output = EscOutput::ALL[0];
         Self {
             output,
             sequence: 0,

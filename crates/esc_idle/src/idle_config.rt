@@ -46,7 +46,20 @@ pub const DSHOT_IDLE_QUALIFICATION_CONFIG: EscIdleQualificationConfig = EscIdleQ
     required_consecutive_samples: 3,
 };
 
-// The constant with its values stated, so that a caller knows them and that they are valid.
+// The three constants with their values stated, since a contract can't name a constant. The settings
+// are also shown to be valid.
+pub fn dshot_prearm_stop_hold_ms() -> u32
+    ensures { λ r. ⌜ r ≡ 100 ⌝ }
+{
+    DSHOT_PREARM_STOP_HOLD_MS
+}
+
+pub fn dshot_idle_throttle_command() -> u16
+    ensures { λ r. ⌜ r ≡ 65 ⌝ }
+{
+    DSHOT_IDLE_THROTTLE_COMMAND
+}
+
 pub fn dshot_idle_qualification_config() -> EscIdleQualificationConfig
     ensures { λ r. ⌜ r ≡ dshotSettings ⌝ }
 {

@@ -12,5 +12,7 @@ pub use idle_config::DSHOT_IDLE_THROTTLE_COMMAND;
 pub use idle_config::DSHOT_PREARM_STOP_HOLD_MS;
 pub use idle_config::EscIdleQualificationConfig;
 pub use idle_config::dshot_idle_qualification_config;
+pub use idle_config::dshot_idle_throttle_command;
+pub use idle_config::dshot_prearm_stop_hold_ms;
 pub use idle_verdict::EscIdleQualificationFailure;
 pub use idle_verdict::EscIdleQualificationStatus;

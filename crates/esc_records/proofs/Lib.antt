@@ -1,3 +1,5 @@
 pub mod RecordLaws
 pub mod AnswerLaws
-pub mod Cases
+pub mod Rising
+pub mod RecordCases
+pub mod AnswerCases

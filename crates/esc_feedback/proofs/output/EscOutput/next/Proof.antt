@@ -1,33 +1,21 @@
--- The order of the lanes, case by case.
+-- The number after a lane's is the number of the lane after it.
 use borrow.Author.Needs.{needs}
+use native.Mathlib.Omega.{arith}
+use Rattle.esc_feedback.proofs.OutputLaws.{lane-below, after-number}
 use Rattle.esc_feedback.proofs.output.EscOutput.next.Statement.{statement}
 use Rattle.esc_feedback.proofs.output.EscOutput.next.Tie as tie
 
-enum-told : tie.Need-enum-told
-enum-told c = search needs
+index-requires : tie.Need-index-requires
+index-requires c κs = search needs
 
-enum-told-2 : tie.Need-enum-told-2
-enum-told-2 c = search needs
+add-of-index : tie.Need-add-of-index
+add-of-index c = record { fits = omega (arith, c .index .ensures, lane-below (c .before .args .self .0)) }
 
-enum-told-3 : tie.Need-enum-told-3
-enum-told-3 c = search needs
-
-enum-told-4 : tie.Need-enum-told-4
-enum-told-4 c = search needs
+of-index-requires : tie.Need-of-index-requires
+of-index-requires c κs = search needs
 
 returns : tie.Need-returns
-returns c = rw (c .enum-told .given .1)
-
-returns-2 : tie.Need-returns-2
-returns-2 c = rw (c .enum-told2 .given .1)
-
-returns-3 : tie.Need-returns-3
-returns-3 c = rw (c .enum-told3 .given .1)
-
-returns-4 : tie.Need-returns-4
-returns-4 c = rw (c .enum-told4 .given .1)
+returns c = rw (c .of-index .ensures, c .before .index .ensures) (after-number (c .before .before .args .self .0))
 
 pub next-spec : {M : Type 1} → statement M
-next-spec =
-    tie.close
-    (tie.spec enum-told enum-told-2 enum-told-3 enum-told-4 returns returns-2 returns-3 returns-4)
+next-spec = tie.close (tie.spec index-requires add-of-index of-index-requires returns)
