@@ -73,12 +73,11 @@ DeliveredExactly =
     → seen r a .requests .delivered ≡ deliveryFor (pastAfter cs) r
 
 -- queued = delivered + timeouts + open
+abbrev pub Balanced : Past → Type 0
+Balanced h = count queued h ≡ count delivered h + (count ackTimeout h + (count responseTimeout h + one (is (openRequest h))))
+
 abbrev pub Conserved : Type 0
-Conserved =
-    (cs : List Call)
-    → count queued (pastAfter cs)
-    ≡ count delivered (pastAfter cs)
-    + (count ackTimeout (pastAfter cs) + (count responseTimeout (pastAfter cs) + one (is (openRequest (pastAfter cs)))))
+Conserved = (cs : List Call) → Balanced (pastAfter cs)
 
 -- the unit's parser gives a sample exactly at the frame ends
 abbrev pub FrameEnds : Type 0
