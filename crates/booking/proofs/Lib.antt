@@ -23,3 +23,5 @@ pub mod Sound
 pub mod Qualified
 pub mod QualifiedLive
 pub mod Cases
+pub mod ShownNewest
+pub mod ShownLive

@@ -11,3 +11,4 @@ pub mod Rule
 pub mod Run
 pub mod Claims
 pub mod Qualified
+pub mod ShownNewest
