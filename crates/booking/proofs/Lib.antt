@@ -25,3 +25,5 @@ pub mod QualifiedLive
 pub mod Cases
 pub mod ShownNewest
 pub mod ShownLive
+pub mod FramedFromCut
+pub mod FramedCutLive

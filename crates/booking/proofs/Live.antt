@@ -45,8 +45,15 @@ poll t = 0x04 ∷ bytesOf 8 t
 abbrev pub byte : ℕ → ℕ → List ℕ
 byte t b = 0x05 ∷ b ∷ bytesOf 8 t
 
+abbrev pub cutWire : List ℕ
+cutWire = 0x06 ∷ []
+
 abbrev pub recover : ℕ → List ℕ
 recover t = 0x07 ∷ 0x00 ∷ bytesOf 8 t
+
+-- eight 00, 1e and 5a are a frame (document 01, 'Cases for the proved table')
+abbrev pub nine : List ℕ
+nine = replicate 8 0x00 ++ 0x1e ∷ []
 
 -- a frame of nothing but speed
 abbrev pub frame : ℕ → ℕ → List (List ℕ)

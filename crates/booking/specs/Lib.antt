@@ -12,3 +12,4 @@ pub mod Run
 pub mod Claims
 pub mod Qualified
 pub mod ShownNewest
+pub mod FramedFromCut
