@@ -1,5 +1,5 @@
 -- What the parser gives along a list is told by the wire so far and by the bytes and cuts to come; and none of it reaches behind a cut.
-use mathlib.Core.Path.{_≡_, refl, sym, _∙_, ap, subst}
+use mathlib.Core.Path.{_≡_, refl, sym, _∙_, ap}
 use mathlib.Core.Bool.{Bool, true, false, _||_, true≢false, false≢true}
 use mathlib.Core.List.{List, [], _∷_, _++_}
 use mathlib.Core.Option.{Option, none, some}
@@ -58,7 +58,8 @@ module _ (s : Since) (u : Unit) (i : UnitAt (s .opening) (s .past) u) (later : L
       on-wire (e .wire .byte) (e .wire .cut) (known (record { opening = s .opening; past = e ∷ s .past }) fits shut)
   one-shown e v (some o) fits shut known = absurd (true≢false shut)
 
-  one-call : (v : Unit) (x : Reply Record) (y : Reply Answer) → Fits (sinceEvent x y (some s)) v → reopened (passedIn (u .manager .parser) x y later) ≡ false → Known v
+  one-call : (v : Unit) (x : Reply Record) (y : Reply Answer) → Fits (sinceEvent x y (some s)) v → reopened (passedIn (u .manager .parser) x y later) ≡ false
+      → Known v
       → given (passedIn (u .manager .parser) x y later) ≡ along (wire (s .past)) (heard (passedIn (u .manager .parser) x y later))
   unfolding given heard reopened
   one-call v (refused n) y fits shut known = known s fits shut

@@ -27,3 +27,6 @@ pub mod ShownNewest
 pub mod ShownLive
 pub mod FramedFromCut
 pub mod FramedCutLive
+pub mod FirstLive
+pub mod WireBytes
+pub mod FirstNine

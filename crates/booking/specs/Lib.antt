@@ -13,3 +13,4 @@ pub mod Claims
 pub mod Qualified
 pub mod ShownNewest
 pub mod FramedFromCut
+pub mod FirstNine
