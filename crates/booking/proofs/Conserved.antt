@@ -3,7 +3,7 @@ use mathlib.Core.Path.{_≡_, refl, sym, _∙_, ap}
 use mathlib.Core.List.{[], _∷_}
 use mathlib.Core.Option.{Option, none, some, Option·none-ne-some}
 use mathlib.Core.Bool.{Bool, true, false, true≢false}
-use Prim.Native.Nat.{ℕ, _+_}
+use Prim.Native.Nat.{ℕ}
 use native.Mathlib.Omega.{arith}
 use Rattle.esc_feedback.specs.declared.request.EscActuatorRequest.{EscActuatorRequest}
 use Rattle.esc_feedback.specs.declared.request.EscActuatorAck.{EscActuatorAck}
@@ -21,14 +21,11 @@ use Rattle.booking.specs.Wire.{Frame, wire, frameAt, timed}
 use Rattle.booking.specs.Booking.{onlyThe, bookedTo, openRequest, latestFrame, newlyStarted, startedRequest}
 use Rattle.booking.specs.Faults.{expired, expiryOf, faulted}
 use Rattle.booking.specs.Turns.{existing, names}
-use Rattle.booking.specs.Counts.{one, count, queued, delivered, ackTimeout, responseTimeout}
+use Rattle.booking.specs.Counts.{one, count}
 use Rattle.booking.specs.Rule.{ackAnswer, wireAnswerOf, answerTo}
 use Rattle.booking.specs.Run.{run}
-use Rattle.booking.specs.Claims.{pastOf, Conserved}
+use Rattle.booking.specs.Claims.{pastOf, Balanced, Conserved}
 use Rattle.booking.proofs.Lawful.{Lawful, start, more, lawful-after}
-
-abbrev Balanced : Past → Type 0
-Balanced h = count queued h ≡ count delivered h + (count ackTimeout h + (count responseTimeout h + one (is (openRequest h))))
 
 -- what a rule names of the open request is open
 only-open : (x : Option Timed) (ok : EscActuatorRequest → Bool) (q : EscActuatorRequest) → onlyThe x ok ≡ some q → is x ≡ true

@@ -27,7 +27,7 @@ latest-local (cut ∷ same) v w (suc n) = refl
 latest-local (byte b ∷ same) v w zero = refl
 latest-local (byte b ∷ same) v w (suc n) = rw (latest-local same v w 9, latest-local same v w n)
 
-frame-local : (same v w : List OnWire) (b : ℕ) → frameAt (same ++ cut ∷ v) b ≡ frameAt (same ++ cut ∷ w) b
+pub frame-local : (same v w : List OnWire) (b : ℕ) → frameAt (same ++ cut ∷ v) b ≡ frameAt (same ++ cut ∷ w) b
 unfolding frameAt
 frame-local same v w b = ap (checked b) (latest-local same v w 9)
 

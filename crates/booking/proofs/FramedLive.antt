@@ -17,14 +17,7 @@ use Rattle.booking.specs.Faults.{faulted, quietSince, retries, expired, 
 use Rattle.booking.specs.Turns.{turn, lastQueued, existing}
 use Rattle.booking.specs.IdleRule.{check, verdict, run, judged}
 use Rattle.booking.specs.Rule.{ruleFor, traceOf}
-use Rattle.booking.proofs.Live.{open′, byte, pastBy}
-
-abbrev cutWire : List ℕ
-cutWire = 0x06 ∷ []
-
--- eight 00, 1e and 5a are a frame (document 01, 'Cases for the proved table')
-abbrev nine : List ℕ
-nine = replicate 8 0x00 ++ 0x1e ∷ []
+use Rattle.booking.proofs.Live.{open′, byte, cutWire, nine, pastBy}
 
 -- the frame that a byte ends, after an opening and a list of records
 abbrev endedBy : ℕ → List (List ℕ) → Option (List ℕ)

@@ -23,3 +23,10 @@ pub mod Sound
 pub mod Qualified
 pub mod QualifiedLive
 pub mod Cases
+pub mod ShownNewest
+pub mod ShownLive
+pub mod FramedFromCut
+pub mod FramedCutLive
+pub mod FirstLive
+pub mod WireBytes
+pub mod FirstNine

@@ -15,7 +15,7 @@ use Rattle.esc_feedback.specs.Output.{laneOf}
 use Rattle.esc_feedback.specs.declared.request.EscTelemetryUpdate.{EscTelemetryUpdate}
 use Rattle.esc_feedback.specs.declared.stats.EscManagerStats.{EscManagerStats}
 use Rattle.esc_records.specs.Record.{recordOf, readRecord}
-use Rattle.esc_records.specs.Answer.{requestBytes, sampleBytes, deliveredBytes, failureBytes, idleBytes, nextBytes, ackBytes, wireBytes, timeoutBytes, bodyBytes, answerBytes}
+use Rattle.esc_records.specs.Answer.{requestBytes, sampleBytes, deliveredBytes, failureBytes, idleBytes, nextBytes, ackBytes, wireBytes, timeoutBytes, bodyBytes, answerBytes, replyBytes}
 use Rattle.esc_records.specs.declared.answer.Answer.{Answer}
 use Rattle.base.specs.Maybe.{is}
 use Rattle.booking.specs.History.{Past, History, saidBy, updateIn, since}
@@ -33,23 +33,30 @@ use Rattle.booking.proofs.Session.{roomy}
 abbrev pub open′ : List ℕ
 open′ = 0x00 ∷ (bytesOf 4 0 ++ (bytesOf 4 0 ++ (bytesOf 4 20 ++ (bytesOf 4 100 ++ (bytesOf 4 500 ++ bytesOf 8 0)))))
 
-abbrev queue : ℕ → ℕ → ℕ → List ℕ
+abbrev pub queue : ℕ → ℕ → ℕ → List ℕ
 queue s l t = 0x02 ∷ (bytesOf 4 s ++ l ∷ bytesOf 8 t)
 
-abbrev acknowledge : ℕ → ℕ → ℕ → ℕ → List ℕ
+abbrev pub acknowledge : ℕ → ℕ → ℕ → ℕ → List ℕ
 acknowledge s l started t = 0x03 ∷ (bytesOf 4 s ++ l ∷ (bytesOf 8 started ++ bytesOf 8 t))
 
-abbrev poll : ℕ → List ℕ
+abbrev pub poll : ℕ → List ℕ
 poll t = 0x04 ∷ bytesOf 8 t
 
 abbrev pub byte : ℕ → ℕ → List ℕ
 byte t b = 0x05 ∷ b ∷ bytesOf 8 t
 
-abbrev recover : ℕ → List ℕ
+abbrev pub cutWire : List ℕ
+cutWire = 0x06 ∷ []
+
+abbrev pub recover : ℕ → List ℕ
 recover t = 0x07 ∷ 0x00 ∷ bytesOf 8 t
 
+-- eight 00, 1e and 5a are a frame (document 01, 'Cases for the proved table')
+abbrev pub nine : List ℕ
+nine = replicate 8 0x00 ++ 0x1e ∷ []
+
 -- a frame of nothing but speed
-abbrev frame : ℕ → ℕ → List (List ℕ)
+abbrev pub frame : ℕ → ℕ → List (List ℕ)
 frame t erpm = map (byte t) (replicate 8 0x00 ++ erpm ∷ crcOf (replicate 8 0x00 ++ erpm ∷ []) ∷ [])
 
 abbrev flight : List (List ℕ)
@@ -72,7 +79,7 @@ pub record Reading : Type 0 where
   pub at : ℕ
   pub erpm : ℕ
 
-abbrev reading : EscTelemetryUpdate → Reading
+abbrev pub reading : EscTelemetryUpdate → Reading
 reading u =
     record {
       lane = laneOf (u .output);
@@ -93,7 +100,7 @@ abbrev readings : History → List Reading
 readings [] = []
 readings (e ∷ h) = readings h ++ readingsOf (e .reply)
 
-abbrev booked′ : ℕ → ℕ → ℕ → ℕ → Reading
+abbrev pub booked′ : ℕ → ℕ → ℕ → ℕ → Reading
 booked′ l s t e = record { lane = l; sequence = s; at = t; erpm = e }
 
 pub deliveries : readings (traceOf [] (map roomy flight)) ≡ booked′ 0 0 2 60 ∷ booked′ 1 1 5 62 ∷ booked′ 0 4 1801 63 ∷ booked′ 1 5 1901 64 ∷ []
@@ -103,6 +110,14 @@ deliveries = refl
 -- what of a list of records is accepted, by the rule
 abbrev pub pastBy : List (List ℕ) → Past
 pastBy records = pastOf (since (traceOf [] (map roomy records)))
+
+abbrev newestReply : History → List ℕ
+newestReply [] = []
+newestReply (e ∷ h) = replyBytes (e .reply)
+
+-- the bytes of the reply to the last of a list of records, by the rule
+abbrev pub lastReply : List (List ℕ) → List ℕ
+lastReply records = newestReply (traceOf [] (map roomy records))
 
 abbrev past : Past
 past = pastBy flight

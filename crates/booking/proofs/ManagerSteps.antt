@@ -99,12 +99,14 @@ module _ (o : Opening) (h : Past) (p : StreamParser) (i : ParserAt h p) where
   unfolding pushWire receivedOn turn lastQueued openRequest startedAt latestFrame faulted quietSince retries note wrapping saturating renewed
   byte-none b now d e = rw (given-at h p i b, e, booked-none (startedRequest h), heard-is (faulted h) (quietSince h) (retries h) now)
 
+  -- the held frame is closed by a `refl` of its own: a wrong rule is then refused by the words that differ
   byte-some : (b now : ℕ) (d : Idle) (f : List ℕ) → frameAt (wire h) b ≡ some f → Open h → ByteOk b now d
   unfolding pushWire receivedOn framedOn turn lastQueued openRequest startedAt latestFrame startedRequest faulted quietSince retries note wrapping saturating renewed
   byte-some b now d f e (nothing k) =
       rw (given-at h p i b, e, k, parser-byte h p i b (showing none none false none) now false d .counts, e, heard-is (faulted h) (quietSince h) (retries h) now)
   byte-some b now d f e (waiting q k s) =
       rw (given-at h p i b, e, k, s, parser-byte h p i b (showing none none false none) now false d .counts, e, heard-is (faulted h) (quietSince h) (retries h) now, s)
+      refl
   byte-some b now d f e (running q t k s) =
       rw (given-at h p i b, e, k, s, parser-byte h p i b (showing none none false none) now false d .counts, e, heard-is (faulted h) (quietSince h) (retries h) now)
       (ap (λ (m : EscManager). record { manager = m; answer = update.Some (booked (q .request) (record { bytes = f; at = now })) }) (delivered-is _ _ _ _ _ _ _ _ _ _))

@@ -1,6 +1,7 @@
 -- Demand 3 and the buyer's note (docs/CLAIMS.md), one statement for each sentence, over every list of calls fed to a unit never opened.
--- What a first Qualified stands for is in Qualified.antt; whose bytes a sample was read from, in the crate attribution. A statement's
--- theorem has the same name in small letters: `delivered-exactly` proves DeliveredExactly.
+-- A sample's bytes in its answer are in FirstNine.antt; framing from a cut on, in FramedFromCut.antt; what a first Qualified stands for, in
+-- Qualified.antt; what 0d shows, in ShownNewest.antt; whose bytes a sample was read from, in the crate attribution. A statement's theorem has
+-- the same name in small letters: `delivered-exactly` proves DeliveredExactly.
 --
 -- To read it: (x : A) → B is "for every x of A, B"; a ≡ b is "a equals b"; x ∷ xs is a list that begins with x, [] an empty one; f x is f
 -- at x; s .past is the part `past` of s; a value that may be missing is none or some x. Histories have the newest first.
@@ -73,12 +74,11 @@ DeliveredExactly =
     → seen r a .requests .delivered ≡ deliveryFor (pastAfter cs) r
 
 -- queued = delivered + timeouts + open
+abbrev pub Balanced : Past → Type 0
+Balanced h = count queued h ≡ count delivered h + (count ackTimeout h + (count responseTimeout h + one (is (openRequest h))))
+
 abbrev pub Conserved : Type 0
-Conserved =
-    (cs : List Call)
-    → count queued (pastAfter cs)
-    ≡ count delivered (pastAfter cs)
-    + (count ackTimeout (pastAfter cs) + (count responseTimeout (pastAfter cs) + one (is (openRequest (pastAfter cs)))))
+Conserved = (cs : List Call) → Balanced (pastAfter cs)
 
 -- the unit's parser gives a sample exactly at the frame ends
 abbrev pub FrameEnds : Type 0

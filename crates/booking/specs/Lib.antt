@@ -10,3 +10,6 @@ pub mod Rule
 pub mod Run
 pub mod Claims
 pub mod Qualified
+pub mod ShownNewest
+pub mod FramedFromCut
+pub mod FirstNine

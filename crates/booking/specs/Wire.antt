@@ -16,7 +16,7 @@ pub data OnWire : Type 0 where
   byte : ℕ → OnWire
   cut : OnWire
 
-abbrev onWire : Option Byte → Bool → List OnWire → List OnWire
+abbrev pub onWire : Option Byte → Bool → List OnWire → List OnWire
 onWire none true w = cut ∷ w
 onWire none false w = w
 onWire (some b) c w = byte (b .value) ∷ w
