@@ -35,13 +35,14 @@ impl EscManagerConfig {
     }
 }
 
-// The two constants with their values stated, since a contract can't name a constant.
+// `ESC_REQUEST_EXPIRY_MS` with its value stated, since a contract can't name a constant.
 pub fn esc_request_expiry_ms() -> u32
     ensures { λ r. ⌜ r ≡ 20 ⌝ }
 {
     ESC_REQUEST_EXPIRY_MS
 }
 
+// `ESC_RETRY_BACKOFF_STEPS`, likewise.
 pub fn esc_retry_backoff_steps() -> u32
     ensures { λ r. ⌜ r ≡ 3 ⌝ }
 {

@@ -46,20 +46,21 @@ pub const DSHOT_IDLE_QUALIFICATION_CONFIG: EscIdleQualificationConfig = EscIdleQ
     required_consecutive_samples: 3,
 };
 
-// The three constants with their values stated, since a contract can't name a constant. The settings
-// are also shown to be valid.
+// `DSHOT_PREARM_STOP_HOLD_MS` with its value stated, since a contract can't name a constant.
 pub fn dshot_prearm_stop_hold_ms() -> u32
     ensures { λ r. ⌜ r ≡ 100 ⌝ }
 {
     DSHOT_PREARM_STOP_HOLD_MS
 }
 
+// `DSHOT_IDLE_THROTTLE_COMMAND`, likewise.
 pub fn dshot_idle_throttle_command() -> u16
     ensures { λ r. ⌜ r ≡ 65 ⌝ }
 {
     DSHOT_IDLE_THROTTLE_COMMAND
 }
 
+// `DSHOT_IDLE_QUALIFICATION_CONFIG`, likewise. These settings are valid (`dshot-valid`).
 pub fn dshot_idle_qualification_config() -> EscIdleQualificationConfig
     ensures { λ r. ⌜ r ≡ dshotSettings ⌝ }
 {
