@@ -1,6 +1,7 @@
--- Two lists with the same bytes and cuts after a cut of each, run by the unit itself: other records and times differ, the samples do not.
+-- Lists run by the unit itself: two with the same bytes and cuts after a cut of each, whose samples are the same though other records and
+-- times differ; and lists in which one thing that is asked for fails.
 use mathlib.Core.Path.{_≡_, refl}
-use mathlib.Core.Bool.{true, false}
+use mathlib.Core.Bool.{Bool, true, false}
 use mathlib.Core.List.{List, [], _∷_, _++_, map}
 use Prim.Native.Nat.{ℕ}
 use lib.ListN.{take, drop, replicate}
@@ -8,6 +9,7 @@ use Rattle.base.specs.BigEndian.{numberAt, bytesOf}
 use Rattle.blheli_telemetry.specs.Crc.{crcBit, crcBits, crcByte, crcFrom, crcOf}
 use Rattle.blheli_telemetry.specs.Frame.{telemetryOf, payloadOf, readFrame}
 use Rattle.blheli_telemetry.specs.Parser.{shiftedDown, pushOf}
+use Rattle.blheli_telemetry.specs.declared.parser.Parsed.{Parsed}
 use Rattle.blheli_telemetry.specs.declared.parser.Parsed.the-variants.{Sample, Nothing}
 use Rattle.base.specs.Due.{due}
 use Rattle.esc_feedback.specs.Request.{sameRequest}
@@ -24,7 +26,7 @@ use Rattle.esc_records.specs.Record.{recordOf, readRecord}
 use Rattle.esc_records.specs.Answer.{requestBytes, sampleBytes, deliveredBytes, failureBytes, idleBytes, nextBytes, ackBytes, wireBytes, timeoutBytes, reportBytes, bodyBytes, answerBytes}
 use Rattle.esc_unit.specs.Unit.{stepOf, enter, callOf}
 use Rattle.booking.specs.History.{since, Call}
-use Rattle.booking.specs.Wire.{byte, cut, wire}
+use Rattle.booking.specs.Wire.{OnWire, byte, cut, wire}
 use Rattle.booking.specs.Run.{feed, run}
 use Rattle.booking.specs.Claims.{pastAfter}
 use Rattle.booking.specs.FramedFromCut.{passed, rest, reopened, heard, given, justCut}
@@ -62,23 +64,51 @@ after′ =
     ∷ bytes 601 first
     ++ ((0x0c ∷ []) ∷ cutWire ∷ acknowledge 1 1 602 602 ∷ bytes 603 (take 5 second) ++ ((0xff ∷ []) ∷ bytes 604 (drop 5 second))))
 
+-- what the claim speaks of, at the rest of a list
+pub record Comes (before after : List Call) (cuts opens : Bool) (bytes : List OnWire) (samples : List Parsed) : Type 0 where
+  pub is-cut : justCut (wire (pastAfter before)) ≡ cuts
+  pub is-opened : reopened (rest before after) ≡ opens
+  pub hears : heard (rest before after) ≡ bytes
+  pub gives : given (rest before after) ≡ samples
+
+abbrev same : List OnWire
+same = map byte first ++ cut ∷ map byte second
+
 -- the tenth and the twenty-fourth byte end a frame
-pub record Alike (before after : List Call) : Type 0 where
-  pub cuts : justCut (wire (pastAfter before)) ≡ true
-  pub shut : reopened (rest before after) ≡ false
-  pub hears : heard (rest before after) ≡ map byte first ++ cut ∷ map byte second
-  pub gives : given (rest before after) ≡ replicate 9 Nothing ++ Sample (telemetryOf nine) ∷ (replicate 13 Nothing ++ Sample (telemetryOf second) ∷ [])
+abbrev samples : List Parsed
+samples = replicate 9 Nothing ++ Sample (telemetryOf nine) ∷ (replicate 13 Nothing ++ Sample (telemetryOf second) ∷ [])
 
--- without the cut among them, the same bytes end a frame at the twentieth
-pub record Apart (before after : List Call) : Type 0 where
-  pub hears : heard (rest before after) ≡ map byte (first ++ second)
-  pub gives : given (rest before after)
-      ≡ replicate 9 Nothing ++ Sample (telemetryOf nine) ∷ (replicate 9 Nothing ++ Sample (telemetryOf second) ∷ replicate 4 Nothing)
-
-pub alike : Alike before after × Alike before′ after′ × Apart before (calls (bytes 2 (first ++ second)))
+pub alike : Comes before after true false same samples × Comes before′ after′ true false same samples
 unfolding numberAt bytesOf crcBit crcBits crcByte crcFrom crcOf telemetryOf payloadOf readFrame shiftedDown pushOf due sameRequest delivered heardAt quietWindow mayRecover requestExists nextRequest markQueued ackOn onAck polledOn pollTimeout framedOn receivedOn pushWire tryRecover withSample bookedIn recordOf readRecord requestBytes sampleBytes deliveredBytes failureBytes idleBytes nextBytes ackBytes wireBytes timeoutBytes reportBytes bodyBytes answerBytes stepOf enter callOf since wire feed run passed reopened heard given
 alike = (
-  record { cuts = refl; shut = refl; hears = refl; gives = refl },
-  record { cuts = refl; shut = refl; hears = refl; gives = refl },
-  record { hears = refl; gives = refl },
+  record { is-cut = refl; is-opened = refl; hears = refl; gives = refl },
+  record { is-cut = refl; is-opened = refl; hears = refl; gives = refl },
 )
+
+-- ten bytes 00
+abbrev five : List (List ℕ)
+five = bytes 2 (replicate 5 0x00)
+
+abbrev ten : List Call
+ten = calls (five ++ five)
+
+abbrev sample : Parsed
+sample = Sample (telemetryOf second)
+
+-- after a cut they are a frame. With a cut among them, with no cut before them, with an opening among them: one thing that is asked for
+-- fails, and the samples are others
+pub record Apart : Type 0 where
+  pub as-asked : Comes before ten true false (map byte second) (replicate 9 Nothing ++ sample ∷ [])
+  pub other-cuts : Comes before (calls (five ++ cutWire ∷ five)) true false (replicate 5 (byte 0x00) ++ cut ∷ replicate 5 (byte 0x00)) (replicate 10 Nothing)
+  pub no-cut : Comes (calls (open′ ∷ bytes 1 (replicate 9 0x00))) ten false false (map byte second) (sample ∷ replicate 9 Nothing)
+  pub opened-anew : Comes before (calls (five ++ open′ ∷ five)) true true (map byte second) (replicate 10 Nothing)
+
+pub apart : Apart
+unfolding numberAt bytesOf crcBit crcBits crcByte crcFrom crcOf telemetryOf payloadOf readFrame shiftedDown pushOf due sameRequest delivered heardAt quietWindow mayRecover requestExists nextRequest markQueued ackOn onAck polledOn pollTimeout framedOn receivedOn pushWire tryRecover withSample bookedIn recordOf readRecord requestBytes sampleBytes deliveredBytes failureBytes idleBytes nextBytes ackBytes wireBytes timeoutBytes reportBytes bodyBytes answerBytes stepOf enter callOf since wire feed run passed reopened heard given
+apart =
+    record {
+      as-asked = record { is-cut = refl; is-opened = refl; hears = refl; gives = refl };
+      other-cuts = record { is-cut = refl; is-opened = refl; hears = refl; gives = refl };
+      no-cut = record { is-cut = refl; is-opened = refl; hears = refl; gives = refl };
+      opened-anew = record { is-cut = refl; is-opened = refl; hears = refl; gives = refl };
+    }

@@ -60,8 +60,8 @@ sampleHolds q f status =
     ∷ laneOf (q .output)
     ∷ bytesOf 4 (q .sequence) ++ (bytesOf 8 (f .at) ++ (take 9 (f .bytes) ++ idleBytes status))
 
--- the answer's bytes to the record r after h: a request is open, the rule has a frame of ten bytes, the tenth their check byte, and the
--- answer is made of these two
+-- the bytes of an answer to the record r after h: a request is open, the rule has a frame of ten bytes of which the tenth is the CRC of
+-- the nine, and the answer is made of these two
 pub record Laid (h : Past) (r : Record) (bytes : List ℕ) : Type 0 where
   pub request : Timed
   pub opened : openRequest h ≡ some request
