@@ -117,7 +117,7 @@ module _ (o : Opening) (l : Log) (h : Past) (e : Entry) (i : Stands l h) (unaske
   silent-step : Step o h (e .seen) → Silent (e .seen ∷ h)
   unfolding openRequest faulted latestFrame latest
   silent-step (plain s) = same-silent s
-  silent-step (grants q n f s) =
+  silent-step (grants q f s) =
       record {
         idle = λ x. absurd (Option·some-ne-none _ (rw (s .delivered, s .timeout, s .granted) at x));
         held = λ q x f y. absurd (Option·none-ne-some f (rw (s .granted) at y));
@@ -135,7 +135,7 @@ module _ (o : Opening) (l : Log) (h : Past) (e : Entry) (i : Stands l h) (unaske
 
   clean-grant : Step o h (e .seen) → (g : Timed) → e .seen .requests .granted ≡ some g → Clean (wire h)
   clean-grant (plain s) g k = absurd (Option·none-ne-some g (sym (s .granted) ∙ k))
-  clean-grant (grants q n f s) g k = c .idle n f
+  clean-grant (grants q f s) g k = c .idle (f .unasked) (f .calm)
   clean-grant (takes b a s) g k = absurd (Option·none-ne-some g (sym (s .granted) ∙ k))
   clean-grant (answers q s) g k = absurd (Option·none-ne-some g (sym (s .granted) ∙ k))
   clean-grant (ends t s) g k = absurd (Option·none-ne-some g (sym (s .granted) ∙ k))

@@ -204,7 +204,7 @@ module _ (o : Opening) (l : Log) (h : Past) (e : Entry) (i : Stands l h) (unaske
 
   pub stepped : Step o h (e .seen) → Stepped l h e
   stepped (plain s) = plain-step s
-  stepped (grants q n f s) = grant-step q n f s
+  stepped (grants q f s) = grant-step q (f .unasked) (f .calm) s
   stepped (takes b a s) = byte-step b s
   stepped (answers q s) = ack-step q s
   stepped (ends t s) = timeout-step t s

@@ -5,6 +5,7 @@ use mathlib.Core.Option.{Option, none, some, Option·none-ne-some}
 use mathlib.Core.Bool.{Bool, true, false, not, true≢false}
 use Prim.Native.Nat.{ℕ, _-_, _*_, _^_, _≤_, min}
 use borrow.Author.Tests.{leb-true}
+use Rattle.esc_feedback.specs.Due.{due}
 use Rattle.esc_feedback.specs.declared.request.EscActuatorRequest.{EscActuatorRequest}
 use Rattle.esc_feedback.specs.declared.request.EscActuatorAck.{EscActuatorAck}
 use Rattle.esc_feedback.specs.declared.request.EscTelemetryUpdate.{EscTelemetryUpdate}
@@ -19,7 +20,7 @@ use Rattle.booking.specs.History.{Opening, Timed, Byte, Seen, Past, Since, seen
 use Rattle.booking.specs.Wire.{Frame, wire, frameAt, timed}
 use Rattle.booking.specs.Booking.{bookedTo, openRequest, latestFrame, newlyStarted, startedRequest}
 use Rattle.booking.specs.Faults.{faulted, quietSince, retries, expired, recovers}
-use Rattle.booking.specs.Turns.{existing, names}
+use Rattle.booking.specs.Turns.{lastQueued, dueSince, existing, names}
 use Rattle.booking.specs.Claims.{pastOf}
 use Rattle.booking.specs.Rule.{ackAnswer, wireAnswerOf, answerTo}
 use Rattle.attribution.specs.Marks.{Entry, Log, sinceIn, past}
@@ -34,11 +35,18 @@ pub record Shows (e : Seen) (g : Option Timed) (b : Option Byte) (d : Option Esc
   pub timeout : e .requests .timeout ≡ t
   pub recovered : e .requests .recovered ≡ r
 
+-- a request exists: none is open, no fault stands, and the boot delay and the period are due
+pub record Free (o : Opening) (h : Past) (now : ℕ) : Type 0 where
+  pub unasked : openRequest h ≡ none
+  pub calm : faulted h ≡ false
+  pub booted : due (o .boot) now (o .config .«boot_delay_ms») ≡ true
+  pub paced : dueSince (lastQueued h) now (o .config .«request_period_ms») ≡ true
+
 pub data Step (o : Opening) (h : Past) (e : Seen) : Type 0 where
   -- nothing of these
   plain : Shows e none none none none false → Step o h e
-  -- a 02 answered yes: none was open and no fault stood
-  grants : (q : EscActuatorRequest) → openRequest h ≡ none → faulted h ≡ false → Shows e (some (record { request = q; at = e .now })) none none none false → Step o h e
+  -- a 02 answered yes
+  grants : (q : EscActuatorRequest) → Free o h (e .now) → Shows e (some (record { request = q; at = e .now })) none none none false → Step o h e
   -- a 05
   takes : (b : ℕ) → e .requests .acknowledged ≡ none → Shows e none (some (record { value = b; at = e .now })) (bookedTo (startedRequest h) (timed (frameAt (wire h) b) (e .now))) none false → Step o h e
   -- a 03
@@ -53,19 +61,18 @@ shows : (e : Seen) → e .opening ≡ none → Shows e (e .requests .granted) (e
 shows e o = record { opening = o; granted = refl; byte = refl; delivered = refl; timeout = refl; recovered = refl }
 
 module _ (o : Opening) (h : Past) where
-  -- a request exists only where none is open and no fault stands
-  record Free : Type 0 where
-    unasked : openRequest h ≡ none
-    calm : faulted h ≡ false
-
-  existing-free : (now : ℕ) (q : EscActuatorRequest) → existing o h now ≡ some q → Free
+  existing-free : (now : ℕ) (q : EscActuatorRequest) → existing o h now ≡ some q → Free o h now
   unfolding existing
-  existing-free now q e = go (faulted h) refl (openRequest h) refl
+  existing-free now q e = go (faulted h) refl (openRequest h) refl (due (o .boot) now _) refl (dueSince (lastQueued h) now _) refl
     where
-      go : (f : Bool) → faulted h ≡ f → (x : Option Timed) → openRequest h ≡ x → Free
-      go false f none x = record { unasked = x; calm = f }
-      go true f x y = absurd (Option·none-ne-some q (rw f at e))
-      go false f (some p) y = absurd (Option·none-ne-some q (rw (f, y) at e))
+      go : (f : Bool) → faulted h ≡ f → (x : Option Timed) → openRequest h ≡ x
+          → (b : Bool) → due (o .boot) now (o .config .«boot_delay_ms») ≡ b → (p : Bool) → dueSince (lastQueued h) now (o .config .«request_period_ms») ≡ p
+          → Free o h now
+      go false f none x true b true p = record { unasked = x; calm = f; booted = b; paced = p }
+      go true f x y b z p w = absurd (Option·none-ne-some q (rw f at e))
+      go false f (some r) y b z p w = absurd (Option·none-ne-some q (rw (f, y) at e))
+      go false f none y false z p w = absurd (Option·none-ne-some q (rw (f, y, z) at e))
+      go false f none y true z false w = absurd (Option·none-ne-some q (rw (f, y, z, w) at e))
 
   mark-step : (q : EscActuatorRequest) (now : ℕ) → Step o h (seen (kind.MarkRequestQueued q now) (answer.Decided (names (existing o h now) q)))
   mark-step q now = go (existing o h now) refl
@@ -74,11 +81,8 @@ module _ (o : Opening) (h : Past) where
       go none e = plain (shows _ refl)
       go (some p) e = named (names (some p) q)
         where
-          free : Free
-          free = existing-free now p e
-
           named : (y : Bool) → Step o h (seen (kind.MarkRequestQueued q now) (answer.Decided y))
-          named true = grants q (free .unasked) (free .calm) (shows _ refl)
+          named true = grants q (existing-free now p e) (shows _ refl)
           named false = plain (shows _ refl)
 
   ack-step : (k : EscActuatorAck) (now : ℕ) (says : EscTelemetryUpdate → IdleAnswer)
@@ -136,7 +140,7 @@ entryOf s r o = record { seen = seen r (answerTo (s .opening) (s .past) r); orig
 
 step-opening : (o : Opening) (h : Past) (e : Seen) → Step o h e → e .opening ≡ none
 step-opening o h e (plain s) = s .opening
-step-opening o h e (grants q n f s) = s .opening
+step-opening o h e (grants q f s) = s .opening
 step-opening o h e (takes b a s) = s .opening
 step-opening o h e (answers q s) = s .opening
 step-opening o h e (ends t s) = s .opening

@@ -196,7 +196,7 @@ module _ (o : Opening) (l : Log) (h : Past) (e : Entry) (i : Timely l h (o .conf
 
   timely-step : Step o h (e .seen) → Timely (e ∷ l) (e .seen ∷ h) quiet
   timely-step (plain s) = same-timely none s
-  timely-step (grants q n f s) = grant-timely q f s
+  timely-step (grants q f s) = grant-timely q (f .calm) s
   timely-step (takes b a s) = byte-timely b _ a s
   timely-step (answers q s) = same-timely _ s
   timely-step (ends t s) = timeout-timely t s
