@@ -15,22 +15,17 @@ use Rattle.booking.specs.Faults.{faulted, quietSince}
 use Rattle.attribution.specs.Marks.{Entry, Log}
 use Rattle.attribution.specs.Origin.{requests, atRecovery, atOpening}
 use Rattle.attribution.specs.Times.{stamped, clockAt, byteAt, heardAt}
+use Rattle.attribution.proofs.Clock.{time-grows, time-now}
 
 -- how many requests are earlier than the latest recovery or opening
 abbrev pub earlier : Log → ℕ
 earlier l = max (atRecovery l) (atOpening l)
 
 pub clock-grows : (l : Log) (e : Entry) → clockAt l ≤ clockAt (e ∷ l)
-unfolding clockAt
-clock-grows l e = go (stamped (e .seen))
-  where
-    go : (b : Bool) → clockAt l ≤ pick b (max (clockAt l) (e .seen .now)) (clockAt l)
-    go true = omega arith
-    go false = omega arith
+clock-grows l e = time-grows stamped l e
 
 pub clock-now : (l : Log) (e : Entry) → stamped (e .seen) ≡ true → e .seen .now ≤ clockAt (e ∷ l)
-unfolding clockAt
-clock-now l e s = rw s (omega arith)
+clock-now l e s = time-now stamped l e s
 
 pub stamped-grant : (e : Seen) (g : Timed) → e .requests .granted ≡ some g → stamped e ≡ true
 stamped-grant e g x = rw x (or-true (is (e .opening)))

@@ -11,6 +11,7 @@ pub mod Asked
 pub mod CameFrom
 pub mod ByCuts
 pub mod Attributed
+pub mod Clock
 pub mod Heard
 pub mod Timely
 pub mod ByTimes

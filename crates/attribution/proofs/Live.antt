@@ -22,7 +22,8 @@ use Rattle.booking.specs.Rule.{ruleFor}
 use Rattle.attribution.specs.Marks.{Marked, Entry, Log, logOf, logAfter, sinceIn}
 use Rattle.attribution.specs.Origin.{requests, sentBy, atRecovery, atOpening}
 use Rattle.attribution.specs.Wiring.{always, noFault, Wiring}
-use Rattle.attribution.specs.Times.{clockAt, heardAt, Timing}
+use Rattle.attribution.specs.Clock.{latestT}
+use Rattle.attribution.specs.Times.{heardAt, Timing}
 use Rattle.attribution.specs.Cutting.{Cutting}
 use Rattle.attribution.specs.Attributed.{AttributedIf, CameFrom}
 use Rattle.attribution.proofs.ByRule.{traceMarked, marked-by-rule}
@@ -81,7 +82,7 @@ pub record Live : Type 0 where
   pub noisy-by-cuts : Shown noisy
 
 pub live : Live
-unfolding numberAt bytesOf crcBit crcBits crcByte crcFrom crcOf telemetryOf payloadOf due recordOf readRecord requestBytes sampleBytes deliveredBytes failureBytes idleBytes nextBytes ackBytes wireBytes timeoutBytes bodyBytes answerBytes since wire latest frameAt openRequest startedAt latestFrame newlyStarted startedRequest faulted quietSince retries expired recovers note turn lastQueued existing check verdict run judged ruleFor traceMarked logOf sinceIn requests sentBy atRecovery atOpening always clockAt heardAt
+unfolding numberAt bytesOf crcBit crcBits crcByte crcFrom crcOf telemetryOf payloadOf due recordOf readRecord requestBytes sampleBytes deliveredBytes failureBytes idleBytes nextBytes ackBytes wireBytes timeoutBytes bodyBytes answerBytes since wire latest frameAt openRequest startedAt latestFrame newlyStarted startedRequest faulted quietSince retries expired recovers note turn lastQueued existing check verdict run judged ruleFor traceMarked logOf sinceIn requests sentBy atRecovery atOpening always latestT heardAt
 live =
     record {
       flight-comes = row flight;

@@ -20,7 +20,8 @@ use Rattle.booking.specs.Rule.{ruleFor}
 use Rattle.attribution.specs.Marks.{Marked, logOf, logAfter, sinceIn}
 use Rattle.attribution.specs.Origin.{requests, sentBy, atRecovery, atOpening}
 use Rattle.attribution.specs.Wiring.{always}
-use Rattle.attribution.specs.Times.{clockAt, heardAt}
+use Rattle.attribution.specs.Clock.{latestT}
+use Rattle.attribution.specs.Times.{heardAt}
 use Rattle.attribution.proofs.ByRule.{traceMarked}
 use Rattle.attribution.proofs.Lists.{openingWith, opening, queue, acknowledge, poll, cut, recover, ask, zeros, e1, e2, e3, e4, e5, clock, answer, reopening, cutting, Row, row}
 use Rattle.attribution.proofs.Refuted.{Refuted, refuted-by}
@@ -83,7 +84,7 @@ pub record Needed : Type 0 where
   pub reopened-wrong : Refuted reopened
 
 pub needed : Needed
-unfolding numberAt bytesOf crcBit crcBits crcByte crcFrom crcOf telemetryOf payloadOf due recordOf readRecord requestBytes sampleBytes deliveredBytes failureBytes idleBytes nextBytes ackBytes wireBytes timeoutBytes bodyBytes answerBytes since wire latest frameAt openRequest startedAt latestFrame newlyStarted startedRequest faulted quietSince retries expired recovers note turn lastQueued existing check verdict run judged ruleFor traceMarked logOf sinceIn requests sentBy atRecovery atOpening always clockAt heardAt
+unfolding numberAt bytesOf crcBit crcBits crcByte crcFrom crcOf telemetryOf payloadOf due recordOf readRecord requestBytes sampleBytes deliveredBytes failureBytes idleBytes nextBytes ackBytes wireBytes timeoutBytes bodyBytes answerBytes since wire latest frameAt openRequest startedAt latestFrame newlyStarted startedRequest faulted quietSince retries expired recovers note turn lastQueued existing check verdict run judged ruleFor traceMarked logOf sinceIn requests sentBy atRecovery atOpening always latestT heardAt
 needed =
     record {
       noise-comes = row noise;

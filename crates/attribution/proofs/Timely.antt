@@ -25,6 +25,7 @@ use Rattle.booking.specs.Claims.{pastOf}
 use Rattle.attribution.specs.Marks.{Entry, Log, sinceIn, past}
 use Rattle.attribution.specs.Origin.{requests, atRecovery, atOpening}
 use Rattle.attribution.specs.Wiring.{always}
+use Rattle.attribution.specs.Clock.{latestT}
 use Rattle.attribution.specs.Times.{stamped, clockAt, byteAt, heardAt, quietTime, quietOf, steadyClock, prompt, waitsFor, patientOpening}
 use Rattle.attribution.proofs.Both.{and-left, and-right}
 use Rattle.attribution.proofs.LawfulLog.{Lawful, start, opened, more}
@@ -209,7 +210,7 @@ TimelySince l s = Timely l (pastOf s) (quietOf s)
 timely-new : (l : Log) (s : Option Since) → TimelySince l s → (c : EscManagerConfig) (t : ℕ) (o : Option ℕ)
     → waitsFor l (some (record { config = c; boot = t })) ≡ true
     → Timely (record { seen = seen (kind.Open c t) answer.Done; origin = o } ∷ l) [] (c .«recovery_quiet_ms»)
-unfolding faulted requests atRecovery atOpening heardAt clockAt
+unfolding faulted requests atRecovery atOpening heardAt latestT
 timely-new l s i c t o w =
     record {
       granted = omega (arith, i .granted);
@@ -252,7 +253,7 @@ module _ (l : Log) (e : Entry) (t : Times (e ∷ l)) where
   wait-now = and-left (patientOpening l e) (always patientOpening l) (t .reopening)
 
 timely-start : Timely [] [] 0
-unfolding faulted requests atRecovery atOpening heardAt clockAt
+unfolding faulted requests atRecovery atOpening heardAt latestT
 timely-start = record { granted = omega arith; heard = λ k. omega arith; waits = λ x. absurd (false≢true x); rested = λ f k x. absurd (omega arith) }
 
 timely-more : (l : Log) (s : Since) (r : Record) (o : Option ℕ) → sinceIn l ≡ some s → opens r ≡ false → TimelySince l (sinceIn l) → Times (entryOf s r o ∷ l)
