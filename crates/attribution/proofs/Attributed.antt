@@ -25,8 +25,9 @@ use Rattle.attribution.proofs.Calm.{Calm, calm}
 use Rattle.attribution.proofs.Latest.{Clean, clean-end}
 use Rattle.attribution.proofs.Spent.{Spent, Origin, none-left, wiring-before, origin}
 use Rattle.attribution.proofs.WireSteps.{wire-same, wire-more, clean-keeps, frame-same}
+use Rattle.attribution.proofs.Within.{CleanGrants}
 use Rattle.attribution.proofs.Asked.{all-spent}
-use Rattle.attribution.proofs.CameFrom.{the-open, Stands, Covers, CleanGrants, stands, came-from}
+use Rattle.attribution.proofs.CameFrom.{the-open, Stands, Covers, stands, came-from}
 
 covers : Covers noFault
 covers l i k = go (faulted (past l)) refl

@@ -10,7 +10,8 @@ use Rattle.attribution.specs.Attributed.{AttributedByCuts}
 use Rattle.attribution.proofs.Both.{and-left, and-right}
 use Rattle.attribution.proofs.LawfulLog.{lawful-at}
 use Rattle.attribution.proofs.Latest.{Clean}
-use Rattle.attribution.proofs.CameFrom.{CleanGrants, came-from}
+use Rattle.attribution.proofs.Within.{CleanGrants}
+use Rattle.attribution.proofs.CameFrom.{came-from}
 
 cut-clean : (w : List OnWire) → justCut w ≡ true → Clean w
 unfolding latest
@@ -18,7 +19,7 @@ cut-clean [] e = refl
 cut-clean (cut ∷ w) e = refl
 cut-clean (byte b ∷ w) e = absurd (false≢true e)
 
-clean-grants : (l : Log) → always cutFirst l ≡ true → CleanGrants l
+pub clean-grants : (l : Log) → always cutFirst l ≡ true → CleanGrants l
 unfolding always
 clean-grants [] c = tt
 clean-grants (e ∷ l) c =

@@ -31,6 +31,7 @@ use Rattle.attribution.proofs.Calm.{Calm, calm}
 use Rattle.attribution.proofs.Latest.{Clean}
 use Rattle.attribution.proofs.Spent.{Spent, spent-keeps, all-spent-keeps, Origin, wiring-before, origin}
 use Rattle.attribution.proofs.WireSteps.{clean-keeps, frame-same, latest-now}
+use Rattle.attribution.proofs.Within.{CleanGrants}
 use Rattle.attribution.proofs.Asked.{Asked, came, all-spent, own-clean, asked-same, asked-more}
 
 -- where a log stands: faulted, or with nothing open and nothing left to come, or with a request open
@@ -218,11 +219,6 @@ stands-new l c t o =
 stands-start : Stands [] []
 unfolding openRequest faulted requests
 stands-start = record { idle = λ n f k a r b. absurd (omega arith); asked = λ q x. absurd (Option·none-ne-some q x) }
-
--- each request is granted on a clean wire
-abbrev pub CleanGrants : Log → Type 0
-CleanGrants [] = Unit {0}
-CleanGrants (e ∷ l) = ((g : Timed) → e .seen .requests .granted ≡ some g → Clean (wire (past l))) × CleanGrants l
 
 -- the five assumptions speak of each byte that comes while a request is open
 abbrev pub Covers : Scope → Type 0

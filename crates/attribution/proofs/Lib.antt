@@ -2,11 +2,16 @@ pub mod Unseen
 pub mod ByRule
 pub mod LawfulLog
 pub mod Both
+pub mod Always
 pub mod Steps
+pub mod Along
 pub mod Calm
 pub mod Latest
 pub mod Spent
 pub mod WireSteps
+pub mod Since
+pub mod Within
+pub mod Delivery
 pub mod Asked
 pub mod CameFrom
 pub mod ByCuts
@@ -15,6 +20,9 @@ pub mod Clock
 pub mod Heard
 pub mod Timely
 pub mod ByTimes
+pub mod Wide
+pub mod Pace
+pub mod NeverAnotherArm
 pub mod Lists
 pub mod Refuted
 pub mod Needed

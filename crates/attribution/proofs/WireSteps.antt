@@ -6,7 +6,7 @@ use mathlib.Core.Bool.{Bool, true, false}
 use Prim.Native.Nat.{ℕ, zero, suc}
 use Rattle.blheli_telemetry.specs.Choice.{pick}
 use Rattle.booking.specs.Maybe.{orElse}
-use Rattle.booking.specs.History.{Byte, Past}
+use Rattle.booking.specs.History.{Timed, Byte, Past}
 use Rattle.booking.specs.Wire.{OnWire, byte, cut, Frame, wire, latest, frameAt, timed}
 use Rattle.booking.specs.Booking.{latestFrame}
 use Rattle.attribution.specs.Marks.{Entry}
@@ -41,6 +41,17 @@ latest-now h e g b x f y = rw (g, x, y)
 pub frame-same : (h : Past) (e : Entry) → e .seen .requests .granted ≡ none → e .seen .wire .byte ≡ none → latestFrame (e .seen ∷ h) ≡ latestFrame h
 unfolding latestFrame
 frame-same h e g b = rw (g, b)
+
+-- a grant leaves none
+pub frame-none : (h : Past) (e : Entry) (g : Timed) → e .seen .requests .granted ≡ some g → latestFrame (e .seen ∷ h) ≡ none
+unfolding latestFrame
+frame-none h e g x = rw x
+
+-- a byte that ends no frame leaves the latest
+pub frame-other : (h : Past) (e : Entry) → e .seen .requests .granted ≡ none → (b : Byte) → e .seen .wire .byte ≡ some b → frameAt (wire h) (b .value) ≡ none
+    → latestFrame (e .seen ∷ h) ≡ latestFrame h
+unfolding latestFrame
+frame-other h e g b x z = rw (g, x, z)
 
 pub frame-more : (h : Past) (e : Entry) → e .seen .requests .granted ≡ none → (b : Byte) → e .seen .wire .byte ≡ some b → latestFrame h ≡ none
     → latestFrame (e .seen ∷ h) ≡ timed (frameAt (wire h) (b .value)) (b .at)
