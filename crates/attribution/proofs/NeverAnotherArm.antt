@@ -1,13 +1,12 @@
 -- The cut puts the ten bytes of a frame after the 02 of the latest request, and each byte since is noise or of that request.
-use mathlib.Core.Path.{sym, _∙_, ap, subst}
-use mathlib.Core.List.{[], _∷_, _++_}
+use mathlib.Core.Path.{_∙_, ap}
+use mathlib.Core.List.{_∷_}
 use Prim.Native.Nat.{ℕ}
 use lib.ListN.{length}
 use Rattle.blheli_telemetry.specs.Frame.{telemetryOf}
 use Rattle.esc_feedback.specs.declared.request.EscTelemetryUpdate.{EscTelemetryUpdate}
 use Rattle.attribution.specs.Marks.{Log, past, sinceIn}
-use Rattle.attribution.specs.Origin.{Taken}
-use Rattle.attribution.specs.Since.{takenSince, each}
+use Rattle.attribution.specs.Since.{takenSince, all}
 use Rattle.attribution.specs.Pace.{ticks}
 use Rattle.attribution.specs.NeverAnotherArm.{noOther, NoOtherArm, NeverAnotherArm}
 use Rattle.attribution.proofs.LawfulLog.{lawful-at}
@@ -18,17 +17,18 @@ use Rattle.attribution.proofs.ByCuts.{clean-grants}
 use Rattle.attribution.proofs.Wide.{wide-at}
 use Rattle.attribution.proofs.Pace.{Paced, paced}
 
-no-other-arm : (P : ℕ) (l : Log) (u : EscTelemetryUpdate) → Delivered l (past l) u → Within (takenSince l) (past l) → Paced P l (sinceIn l) → NoOtherArm l u
+no-other-arm : (P : ℕ) (l : Log) (u : EscTelemetryUpdate) → Delivered l (past l) u → Within (takenSince l) (past l) → Paced P l (sinceIn l)
+    → NoOtherArm l u
 no-other-arm P l u d w p =
-    let r = w .frame (d .frame) (d .latest) in
-    let t = r .ten in
     let q = d .request in
-    let all = p .own (length (q .earlier)) (ap length (q .newest)) in
+    let r = w .frame (d .frame) (d .latest) in
+    let each-own = p .own (length (q .earlier)) (ap length (q .newest)) in
     record {
       earlier = q .earlier;
       latest = q .newest;
-      ten = t;
-      own = each-middle (noOther (length (q .earlier))) (t .before) (t .nine ++ t .check ∷ []) (t .after) (rw (t .place) at all);
+      ten = r .ten;
+      run = r .run;
+      own = each-middle (noOther (length (q .earlier))) (r .run .before) (all (r .ten)) (r .run .after) (rw (r .run .place) at each-own);
       says = d .says ∙ ap telemetryOf (r .bytes);
       when = r .when ∙ d .when;
     }

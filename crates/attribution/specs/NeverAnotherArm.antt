@@ -2,7 +2,7 @@
 use Prim.Native.Nat.{ℕ}
 use mathlib.Core.Path.{_≡_}
 use mathlib.Core.Bool.{Bool, true, _&&_}
-use mathlib.Core.List.{List, [], _∷_, _++_}
+use mathlib.Core.List.{List, [], _∷_}
 use mathlib.Core.Option.{Option}
 use lib.Dec.{eqb, ltb}
 use lib.ListN.{length}
@@ -11,7 +11,7 @@ use Rattle.esc_feedback.specs.declared.request.EscActuatorRequest.{EscActuatorR
 use Rattle.esc_feedback.specs.declared.request.EscTelemetryUpdate.{EscTelemetryUpdate}
 use Rattle.attribution.specs.Marks.{Marked, Log}
 use Rattle.attribution.specs.Origin.{requests}
-use Rattle.attribution.specs.Since.{takenSince, valuesOf, each, Ten}
+use Rattle.attribution.specs.Since.{takenSince, valuesOf, each, Ten, all, Run}
 use Rattle.attribution.specs.Wiring.{ofOrigin}
 use Rattle.attribution.specs.EachSample.{bookedOn, OfEachSample}
 use Rattle.attribution.specs.Pace.{Pace}
@@ -25,9 +25,10 @@ noOther k o = ofOrigin (λ j. eqb j k) o
 pub record NoOtherArm (l : Log) (u : EscTelemetryUpdate) : Type 0 where
   pub earlier : List EscActuatorRequest
   pub latest : requests l ≡ bookedOn u ∷ earlier
-  pub ten : Ten (takenSince l)
-  pub own : each (noOther (length earlier)) (ten .nine ++ ten .check ∷ []) ≡ true
-  pub says : u .observation .sample ≡ telemetryOf (valuesOf (ten .nine ++ ten .check ∷ []))
+  pub ten : Ten
+  pub run : Run (all ten) (takenSince l)
+  pub own : each (noOther (length earlier)) (all ten) ≡ true
+  pub says : u .observation .sample ≡ telemetryOf (valuesOf (all ten))
   pub when : ten .check .byte .at ≡ u .observation .«observed_at_ms»
 
 abbrev pub areBytes : List ℕ → Bool

@@ -24,12 +24,18 @@ abbrev pub each : (Option ℕ → Bool) → List Taken → Bool
 each test [] = true
 each test (t ∷ ts) = test (t .origin) && each test ts
 
--- nine bytes and their check byte, one after another among those taken in
-pub record Ten (ts : List Taken) : Type 0 where
+-- nine bytes and their check byte
+pub record Ten : Type 0 where
   pub nine : List Taken
   pub check : Taken
   pub count : length nine ≡ 9
   pub checks : check .byte .value ≡ crcOf (valuesOf nine)
+
+abbrev pub all : Ten → List Taken
+all t = t .nine ++ t .check ∷ []
+
+-- some bytes stand among others one after another, with none between them
+pub record Run (part whole : List Taken) : Type 0 where
   pub before : List Taken
   pub after : List Taken
-  pub place : ts ≡ before ++ ((nine ++ check ∷ []) ++ after)
+  pub place : whole ≡ before ++ (part ++ after)
