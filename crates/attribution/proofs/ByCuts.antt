@@ -11,7 +11,7 @@ use Rattle.attribution.proofs.Both.{and-left, and-right}
 use Rattle.attribution.proofs.LawfulLog.{lawful-at}
 use Rattle.attribution.proofs.Latest.{Clean}
 use Rattle.attribution.proofs.Within.{CleanGrants}
-use Rattle.attribution.proofs.CameFrom.{came-from}
+use Rattle.attribution.proofs.CameFrom.{stands}
 
 cut-clean : (w : List OnWire) → justCut w ≡ true → Clean w
 unfolding latest
@@ -26,4 +26,5 @@ clean-grants (e ∷ l) c =
     (λ g x. cut-clean (wire (past l)) (rw x at (and-left (cutFirst l e) (always cutFirst l) c)), clean-grants l (and-right (cutFirst l e) (always cutFirst l) c))
 
 pub attributed-by-cuts : AttributedByCuts
-attributed-by-cuts ms later e l u x d a = came-from asking (λ l i k. k) e l u (lawful-at ms later (e ∷ l) x) (a .wiring) (clean-grants (e ∷ l) (a .cuts)) d
+attributed-by-cuts ms later e l u x d a =
+    stands asking (λ l i k. k) (e ∷ l) (lawful-at ms later (e ∷ l) x) (a .wiring) (clean-grants (e ∷ l) (a .cuts)) .came-from u d

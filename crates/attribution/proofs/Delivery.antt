@@ -9,7 +9,7 @@ use Rattle.blheli_telemetry.specs.Frame.{telemetryOf}
 use Rattle.esc_feedback.specs.declared.request.EscActuatorRequest.{EscActuatorRequest}
 use Rattle.esc_feedback.specs.declared.request.EscTelemetryUpdate.{EscTelemetryUpdate}
 use Rattle.booking.specs.Maybe.{is, orElse, onlyIf}
-use Rattle.booking.specs.History.{Opening, Timed, Past, Since}
+use Rattle.booking.specs.History.{Opening, Timed, Past}
 use Rattle.booking.specs.Wire.{Frame, wire, frameAt, timed}
 use Rattle.booking.specs.Booking.{booked, bookedTo, onlyThe, openRequest, latestFrame, newlyStarted, startedRequest}
 use Rattle.booking.specs.Claims.{pastOf}
@@ -17,7 +17,7 @@ use Rattle.attribution.specs.Marks.{Entry, Log, past}
 use Rattle.attribution.specs.Origin.{requests}
 use Rattle.attribution.specs.EachSample.{bookedOn}
 use Rattle.attribution.proofs.LawfulLog.{Lawful}
-use Rattle.attribution.proofs.Steps.{Step, plain, grants, takes, answers, ends, restarts}
+use Rattle.attribution.proofs.Steps.{Passes, passing, Step, plain, grants, takes, answers, ends, restarts}
 use Rattle.attribution.proofs.Along.{openingOf, along}
 use Rattle.attribution.proofs.Spent.{requests-keep}
 use Rattle.attribution.proofs.WireSteps.{frame-same, latest-now}
@@ -28,11 +28,11 @@ pub record Delivery (h : Past) (e : Entry) (u : EscTelemetryUpdate) : Type 0 whe
   pub frame : Frame
   pub latest : latestFrame (e .seen ∷ h) ≡ some frame
   pub sample : booked (asked .request) frame ≡ u
-  pub ungranted : e .seen .requests .granted ≡ none
+  pub passes : Passes (e .seen)
 
 module _ (o : Opening) (h : Past) (e : Entry) (u : EscTelemetryUpdate) where
   -- what a rule books to the open request
-  booking : e .seen .requests .granted ≡ none → (ok : EscActuatorRequest → Bool) (f : Option Frame) → ((k : Frame) → f ≡ some k → latestFrame (e .seen ∷ h) ≡ some k)
+  booking : Passes (e .seen) → (ok : EscActuatorRequest → Bool) (f : Option Frame) → ((k : Frame) → f ≡ some k → latestFrame (e .seen ∷ h) ≡ some k)
       → bookedTo (onlyThe (openRequest h) ok) f ≡ some u → Delivery h e u
   booking g ok f frame = go (openRequest h) refl f refl
     where
@@ -43,7 +43,7 @@ module _ (o : Opening) (h : Past) (e : Entry) (u : EscTelemetryUpdate) where
           chosen : (b : Bool) (y : Option Frame) → f ≡ y → bookedTo (onlyIf b (some (q .request))) y ≡ some u → Delivery h e u
           chosen false y z w = absurd (Option·none-ne-some u w)
           chosen true none z w = absurd (Option·none-ne-some u w)
-          chosen true (some k) z w = record { asked = q; there = x; frame = k; latest = frame k z; sample = Option·some-injective _ _ w; ungranted = g }
+          chosen true (some k) z w = record { asked = q; there = x; frame = k; latest = frame k z; sample = Option·some-injective _ _ w; passes = g }
 
   no-sample : e .seen .requests .delivered ≡ none → e .seen .requests .delivered ≡ some u → Delivery h e u
   no-sample n k = absurd (Option·none-ne-some u (sym n ∙ k))
@@ -52,12 +52,12 @@ module _ (o : Opening) (h : Past) (e : Entry) (u : EscTelemetryUpdate) where
   unfolding startedRequest newlyStarted
   delivery (plain s) k = no-sample (s .delivered) k
   delivery (grants q f s) k = no-sample (s .delivered) k
-  delivery (takes b a s) k = booking (s .granted) _ (timed (frameAt (wire h) b) (e .seen .now)) (λ f. frame (frameAt (wire h) b) refl f) (sym (s .delivered) ∙ k)
+  delivery (takes b a s) k = booking (passing (e .seen) s) _ (timed (frameAt (wire h) b) (e .seen .now)) (λ f. frame (frameAt (wire h) b) refl f) (sym (s .delivered) ∙ k)
     where
       frame : (y : Option (List ℕ)) → frameAt (wire h) b ≡ y → (f : Frame) → timed y (e .seen .now) ≡ some f → latestFrame (e .seen ∷ h) ≡ some f
       frame none y f z = absurd (Option·none-ne-some f z)
       frame (some bs) y f z = latest-now h e (s .granted) (record { value = b; at = e .seen .now }) (s .byte) bs y ∙ z
-  delivery (answers q s) k = booking (s .granted) _ (latestFrame h) (λ f x. frame-same h e (s .granted) (s .byte) ∙ x) (sym (s .delivered) ∙ k)
+  delivery (answers q s) k = booking (passing (e .seen) s) _ (latestFrame h) (λ f x. frame-same h e (s .granted) (s .byte) ∙ x) (sym (s .delivered) ∙ k)
   delivery (ends t s) k = no-sample (s .delivered) k
   delivery (restarts c f w s) k = no-sample (s .delivered) k
 
@@ -103,7 +103,7 @@ module _ (o : Opening) (l : Log) (h : Past) (e : Entry) (i : Booked l h) where
           let d = delivery o h e u st k in
           subst (Delivered (e ∷ l) (e .seen ∷ h)) (d .sample)
           (record {
-            request = latest-keeps (d .asked .request) (d .ungranted) (i .asked (d .asked) (d .there));
+            request = latest-keeps (d .asked .request) (d .passes .granted) (i .asked (d .asked) (d .there));
             frame = d .frame;
             latest = d .latest;
             says = refl;
@@ -117,4 +117,4 @@ nothing-booked l n = record { asked = λ q x. absurd (Option·none-ne-some q x);
 pub booked-by-rule : (l : Log) → Lawful l → Booked l (past l)
 booked-by-rule =
     along (λ l s. Booked l (pastOf s)) (nothing-booked [] refl) (λ l c t o i. nothing-booked (openingOf c t o ∷ l) refl)
-    (λ l s e x st i. booked-more (s .opening) l (s .past) e i st)
+    (λ l s e k x st i. booked-more (s .opening) l (s .past) e i st)

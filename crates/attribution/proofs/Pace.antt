@@ -1,7 +1,7 @@
 -- The unit's period and boot delay: when a request is granted, every earlier one is P old. So a byte that comes in time is noise or of the
 -- latest request.
-use mathlib.Core.Path.{_≡_, refl, sym, _∙_, ap}
-use mathlib.Core.List.{List, [], _∷_, _++_}
+use mathlib.Core.Path.{_≡_, refl, _∙_}
+use mathlib.Core.List.{[], _∷_}
 use mathlib.Core.Option.{Option, none, some}
 use mathlib.Core.Bool.{Bool, true, false, _&&_, or-true}
 use Prim.Native.Nat.{ℕ, suc, _+_, _-_, _%_, _^_, _≤_, _<_}
@@ -15,10 +15,10 @@ use Rattle.esc_feedback.specs.Due.{due}
 use Rattle.esc_feedback.specs.declared.config.EscManagerConfig.{EscManagerConfig}
 use Rattle.esc_feedback.specs.declared.request.EscActuatorRequest.{EscActuatorRequest}
 use Rattle.booking.specs.Maybe.{is}
-use Rattle.booking.specs.History.{Opening, Timed, Byte, Past, Since}
-use Rattle.booking.specs.Turns.{lastQueued, dueSince}
+use Rattle.booking.specs.History.{Opening, Byte, Since}
+use Rattle.booking.specs.Turns.{lastQueued}
 use Rattle.attribution.specs.Marks.{Entry, Log, sinceIn}
-use Rattle.attribution.specs.Origin.{requests, Taken}
+use Rattle.attribution.specs.Origin.{requests}
 use Rattle.attribution.specs.Since.{takenSince, each}
 use Rattle.attribution.specs.Wiring.{ofOrigin}
 use Rattle.attribution.specs.Clock.{latestT, queuedAt}
@@ -210,4 +210,4 @@ pub paced : (P : ℕ) (l : Log) → Lawful l → Given P l → Paced P l (sinceI
 paced P =
     along (λ l s. Given P l → Paced P l s) (λ a. paced-empty P)
     (λ l c t o i a. opening-paced P l c t o a (sinceIn l) (i (given-before P l (openingOf c t o) a)))
-    (λ l s e x st i a. step-paced P l e a s (i (given-before P l e a)) st)
+    (λ l s e k x st i a. step-paced P l e a s (i (given-before P l e a)) st)

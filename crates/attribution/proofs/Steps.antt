@@ -1,6 +1,5 @@
 -- What one more entry of a log can be: the rule's answer to each kind of record, by what it shows of requests, wire and openings.
-use mathlib.Core.Path.{_≡_, refl, ap}
-use mathlib.Core.List.{_∷_}
+use mathlib.Core.Path.{_≡_, refl}
 use mathlib.Core.Option.{Option, none, some, Option·none-ne-some}
 use mathlib.Core.Bool.{Bool, true, false, not, true≢false}
 use Prim.Native.Nat.{ℕ, _-_, _*_, _^_, _≤_, min}
@@ -16,14 +15,12 @@ use Rattle.esc_unit.specs.declared.record.Record.{Record}
 use Rattle.esc_unit.specs.declared.record.Record.the-variants as kind
 use Rattle.esc_unit.specs.declared.answer.IdleAnswer.{IdleAnswer}
 use Rattle.esc_unit.specs.declared.answer.Answer.the-variants as answer
-use Rattle.booking.specs.History.{Opening, Timed, Byte, Seen, Past, Since, seen}
+use Rattle.booking.specs.History.{Opening, Timed, Byte, Seen, Past, seen}
 use Rattle.booking.specs.Wire.{Frame, wire, frameAt, timed}
 use Rattle.booking.specs.Booking.{bookedTo, openRequest, latestFrame, newlyStarted, startedRequest}
 use Rattle.booking.specs.Faults.{faulted, quietSince, retries, expired, recovers}
 use Rattle.booking.specs.Turns.{lastQueued, dueSince, existing, names}
-use Rattle.booking.specs.Claims.{pastOf}
 use Rattle.booking.specs.Rule.{ackAnswer, wireAnswerOf, answerTo}
-use Rattle.attribution.specs.Marks.{Entry, Log, sinceIn, past}
 use Rattle.attribution.proofs.Both.{and-left, and-right}
 
 -- all of an entry that attribution reads, but a cut and the time
@@ -34,6 +31,13 @@ pub record Shows (e : Seen) (g : Option Timed) (b : Option Byte) (d : Option Esc
   pub delivered : e .requests .delivered ≡ d
   pub timeout : e .requests .timeout ≡ t
   pub recovered : e .requests .recovered ≡ r
+
+-- no grant, timeout or recovery, whatever its byte and its sample
+abbrev pub Passes : Seen → Type 0
+Passes e = Shows e none (e .wire .byte) (e .requests .delivered) none false
+
+pub passing : (e : Seen) {b : Option Byte} {d : Option EscTelemetryUpdate} → Shows e none b d none false → Passes e
+passing e s = record { opening = s .opening; granted = s .granted; byte = refl; delivered = refl; timeout = s .timeout; recovered = s .recovered }
 
 -- a request exists: none is open, no fault stands, and the boot delay and the period are due
 pub record Free (o : Opening) (h : Past) (now : ℕ) : Type 0 where
@@ -133,24 +137,3 @@ module _ (o : Opening) (h : Past) where
   step kind.Report f = plain (shows _ refl)
   step (kind.StoredSample n) f = plain (shows _ refl)
   step (kind.Figures n) f = plain (shows _ refl)
-
--- the entry of a record that is no 00, and what has come since the opening with it
-abbrev pub entryOf : Since → Record → Option ℕ → Entry
-entryOf s r o = record { seen = seen r (answerTo (s .opening) (s .past) r); origin = o }
-
-step-opening : (o : Opening) (h : Past) (e : Seen) → Step o h e → e .opening ≡ none
-step-opening o h e (plain s) = s .opening
-step-opening o h e (grants q f s) = s .opening
-step-opening o h e (takes b a s) = s .opening
-step-opening o h e (answers q s) = s .opening
-step-opening o h e (ends t s) = s .opening
-step-opening o h e (restarts c f w s) = s .opening
-
-pub since-more : (l : Log) (s : Since) (r : Record) (o : Option ℕ) → sinceIn l ≡ some s → opens r ≡ false
-    → sinceIn (entryOf s r o ∷ l) ≡ some (record { opening = s .opening; past = entryOf s r o .seen ∷ s .past })
-unfolding sinceIn
-since-more l s r o x f = rw (x, step-opening (s .opening) (s .past) (entryOf s r o .seen) (step (s .opening) (s .past) r f))
-
-pub past-more : (l : Log) (s : Since) (r : Record) (o : Option ℕ) → sinceIn l ≡ some s → opens r ≡ false
-    → past (entryOf s r o ∷ l) ≡ entryOf s r o .seen ∷ s .past
-past-more l s r o x f = ap pastOf (since-more l s r o x f)

@@ -1,6 +1,6 @@
 -- The unit's quiet rule. While faulted, the quiet start is no earlier than any request or byte; a recovery comes the quiet time after it,
 -- a new opening too. So of a request before them nothing was heard for the quiet time, and no answer within it is still to come.
-use mathlib.Core.Path.{_≡_, refl, sym, _∙_, subst}
+use mathlib.Core.Path.{_≡_, refl, sym, _∙_}
 use mathlib.Core.List.{[], _∷_}
 use mathlib.Core.Option.{Option, none, some}
 use mathlib.Core.Bool.{Bool, true, false, _||_, true≢false, false≢true}
@@ -15,11 +15,7 @@ use Rattle.esc_feedback.specs.declared.config.EscManagerConfig.{EscManagerConfi
 use Rattle.esc_feedback.specs.declared.answer.EscManagerTimeout.{EscManagerTimeout}
 use Rattle.esc_feedback.specs.declared.request.EscActuatorRequest.{EscActuatorRequest}
 use Rattle.esc_feedback.specs.declared.request.EscTelemetryUpdate.{EscTelemetryUpdate}
-use Rattle.esc_unit.specs.Unit.{opens}
-use Rattle.esc_unit.specs.declared.record.Record.{Record}
-use Rattle.esc_unit.specs.declared.record.Record.the-variants as kind
-use Rattle.esc_unit.specs.declared.answer.Answer.the-variants as answer
-use Rattle.booking.specs.History.{Opening, Byte, Past, Since, seen}
+use Rattle.booking.specs.History.{Opening, Byte, Past, Since}
 use Rattle.booking.specs.Faults.{faulted, quietSince, retries}
 use Rattle.booking.specs.Claims.{pastOf}
 use Rattle.attribution.specs.Marks.{Entry, Log, sinceIn, past}
@@ -28,8 +24,9 @@ use Rattle.attribution.specs.Wiring.{always}
 use Rattle.attribution.specs.Clock.{latestT}
 use Rattle.attribution.specs.Times.{stamped, clockAt, byteAt, heardAt, quietTime, quietOf, steadyClock, prompt, waitsFor, patientOpening}
 use Rattle.attribution.proofs.Both.{and-left, and-right}
-use Rattle.attribution.proofs.LawfulLog.{Lawful, start, opened, more}
-use Rattle.attribution.proofs.Steps.{Shows, Step, plain, grants, takes, answers, ends, restarts, step, entryOf, since-more}
+use Rattle.attribution.proofs.LawfulLog.{Lawful}
+use Rattle.attribution.proofs.Steps.{Shows, Step, plain, grants, takes, answers, ends, restarts}
+use Rattle.attribution.proofs.Along.{openingOf, along}
 use Rattle.attribution.proofs.Heard.{earlier, clock-grows, clock-now, stamped-grant, stamped-byte, stamped-timeout, stamped-recovery, earlier-keeps, heard-keeps, heard-grant, heard-byte, fault-keeps, quiet-grows}
 use Rattle.attribution.proofs.Spent.{requests-keep}
 
@@ -209,7 +206,7 @@ TimelySince l s = Timely l (pastOf s) (quietOf s)
 -- an opening comes the quiet time after all that was heard, unless nothing was asked
 timely-new : (l : Log) (s : Option Since) → TimelySince l s → (c : EscManagerConfig) (t : ℕ) (o : Option ℕ)
     → waitsFor l (some (record { config = c; boot = t })) ≡ true
-    → Timely (record { seen = seen (kind.Open c t) answer.Done; origin = o } ∷ l) [] (c .«recovery_quiet_ms»)
+    → Timely (openingOf c t o ∷ l) [] (c .«recovery_quiet_ms»)
 unfolding faulted requests atRecovery atOpening heardAt latestT
 timely-new l s i c t o w =
     record {
@@ -256,16 +253,9 @@ timely-start : Timely [] [] 0
 unfolding faulted requests atRecovery atOpening heardAt latestT
 timely-start = record { granted = omega arith; heard = λ k. omega arith; waits = λ x. absurd (false≢true x); rested = λ f k x. absurd (omega arith) }
 
-timely-more : (l : Log) (s : Since) (r : Record) (o : Option ℕ) → sinceIn l ≡ some s → opens r ≡ false → TimelySince l (sinceIn l) → Times (entryOf s r o ∷ l)
-    → TimelySince (entryOf s r o ∷ l) (sinceIn (entryOf s r o ∷ l))
-timely-more l s r o x f i t =
-    subst (TimelySince (entryOf s r o ∷ l)) (sym (since-more l s r o x f))
-    (timely-step (s .opening) l (s .past) (entryOf s r o) (subst (TimelySince l) x i) (clock-holds l (entryOf s r o) t)
-    (λ b y z k w. rw x at (answer-now l (entryOf s r o) t b y (rw x z) k w))
-    (step (s .opening) (s .past) r f))
-
 pub timely : (l : Log) → Lawful l → Times l → TimelySince l (sinceIn l)
-unfolding sinceIn
-timely [] start t = timely-start
-timely (e ∷ l) (opened c b o i) t = timely-new l (sinceIn l) (timely l i (times-before l e t)) c b o (wait-now l e t)
-timely (e ∷ l) (more s r o x f i) t = timely-more l s r o x f (timely l i (times-before l e t)) t
+timely =
+    along (λ l s. Times l → TimelySince l s) (λ t. timely-start)
+    (λ l c b o i t. timely-new l (sinceIn l) (i (times-before l (openingOf c b o) t)) c b o (wait-now l (openingOf c b o) t))
+    (λ l s e k x st i t.
+    timely-step (s .opening) l (s .past) e (i (times-before l e t)) (clock-holds l e t) (λ b y z j w. rw x at (answer-now l e t b y (rw x z) j w)) st)

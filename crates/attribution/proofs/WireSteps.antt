@@ -1,13 +1,12 @@
 -- What one entry more makes of the wire and of the latest frame: a byte is added, or a cut, or nothing.
 use mathlib.Core.Path.{_≡_, refl, sym, _∙_, ap}
 use mathlib.Core.List.{List, _∷_}
-use mathlib.Core.Option.{Option, none, some, Option·none-ne-some}
+use mathlib.Core.Option.{none, some, Option·none-ne-some}
 use mathlib.Core.Bool.{Bool, true, false}
 use Prim.Native.Nat.{ℕ, zero, suc}
 use Rattle.blheli_telemetry.specs.Choice.{pick}
-use Rattle.booking.specs.Maybe.{orElse}
 use Rattle.booking.specs.History.{Timed, Byte, Past}
-use Rattle.booking.specs.Wire.{OnWire, byte, cut, Frame, wire, latest, frameAt, timed}
+use Rattle.booking.specs.Wire.{OnWire, byte, cut, wire, latest, frameAt}
 use Rattle.booking.specs.Booking.{latestFrame}
 use Rattle.attribution.specs.Marks.{Entry}
 use Rattle.attribution.specs.Origin.{requests}
@@ -52,15 +51,6 @@ pub frame-other : (h : Past) (e : Entry) → e .seen .requests .granted ≡ none
     → latestFrame (e .seen ∷ h) ≡ latestFrame h
 unfolding latestFrame
 frame-other h e g b x z = rw (g, x, z)
-
-pub frame-more : (h : Past) (e : Entry) → e .seen .requests .granted ≡ none → (b : Byte) → e .seen .wire .byte ≡ some b → latestFrame h ≡ none
-    → latestFrame (e .seen ∷ h) ≡ timed (frameAt (wire h) (b .value)) (b .at)
-unfolding latestFrame
-frame-more h e g b x y = rw (g, x, y) (go (timed (frameAt (wire h) (b .value)) (b .at)))
-  where
-    go : (f : Option Frame) → orElse f none ≡ f
-    go none = refl
-    go (some f) = refl
 
 -- a cut takes bytes off the wire, and nothing puts one there
 pub latest-same : (h : Past) (e : Entry) → e .seen .wire .byte ≡ none → (n : ℕ) (bs : List ℕ) → latest (wire (e .seen ∷ h)) n ≡ some bs → latest (wire h) n ≡ some bs

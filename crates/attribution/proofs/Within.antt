@@ -51,7 +51,7 @@ holds-nothing : (ts : List Taken) (w : List OnWire) → Clean w → (n : ℕ) (b
 holds-nothing ts w c zero bs e = no-bytes ts w bs e
 holds-nothing ts w c (suc n) bs e = absurd (Option·none-ne-some bs (sym (clean-more w n c) ∙ e))
 
-within-nothing : (ts : List Taken) → Within ts []
+pub within-nothing : (ts : List Taken) → Within ts []
 unfolding wire latest latestFrame
 within-nothing ts = record { holds = holds-nothing ts [] refl; frame = λ f x. absurd (Option·none-ne-some f x) }
 
@@ -140,5 +140,5 @@ pub within : (l : Log) → Lawful l → CleanGrants l → Within (takenSince l) 
 within =
     along (λ l s. CleanGrants l → Within (takenSince l) (pastOf s)) (λ c. within-nothing (takenSince []))
     (λ l f t o i c. within-nothing (takenSince (openingOf f t o ∷ l)))
-    (λ l s e x st i c.
-      step-within (s .opening) l (s .past) e (i (c .1)) (λ g y. subst (λ (z : Option Since). Clean (wire (pastOf z))) x (c .0 g y)) st)
+    (λ l s e k x st i c.
+    step-within (s .opening) l (s .past) e (i (c .1)) (λ g y. subst (λ (z : Option Since). Clean (wire (pastOf z))) x (c .0 g y)) st)
