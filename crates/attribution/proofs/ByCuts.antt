@@ -7,7 +7,7 @@ use Rattle.attribution.specs.Marks.{Log, past}
 use Rattle.attribution.specs.Wiring.{always}
 use Rattle.attribution.specs.Cutting.{asking, justCut, cutFirst}
 use Rattle.attribution.specs.Attributed.{AttributedByCuts}
-use Rattle.attribution.proofs.Both.{and-left, and-right}
+use Rattle.attribution.proofs.Always.{now, before}
 use Rattle.attribution.proofs.LawfulLog.{lawful-at}
 use Rattle.attribution.proofs.Latest.{Clean}
 use Rattle.attribution.proofs.Within.{CleanGrants}
@@ -20,10 +20,9 @@ cut-clean (cut ∷ w) e = refl
 cut-clean (byte b ∷ w) e = absurd (false≢true e)
 
 pub clean-grants : (l : Log) → always cutFirst l ≡ true → CleanGrants l
-unfolding always
 clean-grants [] c = tt
 clean-grants (e ∷ l) c =
-    (λ g x. cut-clean (wire (past l)) (rw x at (and-left (cutFirst l e) (always cutFirst l) c)), clean-grants l (and-right (cutFirst l e) (always cutFirst l) c))
+    (λ g x. cut-clean (wire (past l)) (rw x at (now cutFirst l e c)), clean-grants l (before cutFirst l e c))
 
 pub attributed-by-cuts : AttributedByCuts
 attributed-by-cuts ms later e l u x d a =

@@ -23,7 +23,7 @@ use Rattle.attribution.specs.Origin.{requests, atRecovery, atOpening}
 use Rattle.attribution.specs.Wiring.{always}
 use Rattle.attribution.specs.Clock.{latestT}
 use Rattle.attribution.specs.Times.{stamped, clockAt, byteAt, heardAt, quietTime, quietOf, steadyClock, prompt, waitsFor, patientOpening}
-use Rattle.attribution.proofs.Both.{and-left, and-right}
+use Rattle.attribution.proofs.Always.{now, before}
 use Rattle.attribution.proofs.LawfulLog.{Lawful}
 use Rattle.attribution.proofs.Steps.{Shows, Step, plain, grants, takes, answers, ends, restarts}
 use Rattle.attribution.proofs.Along.{openingOf, along}
@@ -229,25 +229,21 @@ pub record Times (l : Log) : Type 0 where
 
 module _ (l : Log) (e : Entry) (t : Times (e ∷ l)) where
   pub times-before : Times l
-  unfolding always
   times-before =
       record {
-        clock = and-right (steadyClock l e) _ (t .clock);
-        prompts = and-right (prompt l e) _ (t .prompts);
-        reopening = and-right (patientOpening l e) _ (t .reopening);
+        clock = before steadyClock l e (t .clock);
+        prompts = before prompt l e (t .prompts);
+        reopening = before patientOpening l e (t .reopening);
       }
 
   pub clock-holds : stamped (e .seen) ≡ true → clockAt l ≤ e .seen .now
-  unfolding always
-  clock-holds m = leb-true _ _ (rw m at (and-left (steadyClock l e) _ (t .clock)))
+  clock-holds m = leb-true _ _ (rw m at (now steadyClock l e (t .clock)))
 
   pub answer-now : (b : Byte) → e .seen .wire .byte ≡ some b → faulted (past l) ≡ false → (k : ℕ) → e .origin ≡ some k → e .seen .now < heardAt k l + quietTime l
-  unfolding always
-  answer-now b x f k o = ltb-true _ _ (rw (x, f, o) at (and-left (prompt l e) _ (t .prompts)))
+  answer-now b x f k o = ltb-true _ _ (rw (x, f, o) at (now prompt l e (t .prompts)))
 
   wait-now : waitsFor l (e .seen .opening) ≡ true
-  unfolding always
-  wait-now = and-left (patientOpening l e) (always patientOpening l) (t .reopening)
+  wait-now = now patientOpening l e (t .reopening)
 
 timely-start : Timely [] [] 0
 unfolding faulted requests atRecovery atOpening heardAt latestT
