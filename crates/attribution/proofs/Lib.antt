@@ -24,6 +24,7 @@ pub mod Wide
 pub mod Pace
 pub mod NeverAnotherArm
 pub mod Lists
+pub mod Newest
 pub mod Refuted
 pub mod Needed
 pub mod Live
