@@ -26,5 +26,7 @@ pub mod NeverAnotherArm
 pub mod Lists
 pub mod Newest
 pub mod Refuted
+pub mod OtherArm
 pub mod Needed
 pub mod Live
+pub mod PaceLists
