@@ -61,7 +61,9 @@ module _ (o : Opening) (l : Log) (h : Past) (e : Entry) (i : Stands l h) (unaske
       same = rw (s .delivered, s .timeout, s .granted)
 
   -- a frame end leaves the wire clean; any other byte comes while a request is open and has no frame
-  byte-silent : (b : ℕ) → Shows (e .seen) none (some (record { value = b; at = e .seen .now })) (bookedTo (startedRequest h) (timed (frameAt (wire h) b) (e .seen .now))) none false → Silent (e .seen ∷ h)
+  byte-silent : (b : ℕ)
+      → Shows (e .seen) none (some (record { value = b; at = e .seen .now })) (bookedTo (startedRequest h) (timed (frameAt (wire h) b) (e .seen .now))) none false
+      → Silent (e .seen ∷ h)
   unfolding openRequest faulted latestFrame
   byte-silent b s = go (frameAt (wire h) b) refl
     where
@@ -78,7 +80,9 @@ module _ (o : Opening) (l : Log) (h : Past) (e : Entry) (i : Stands l h) (unaske
       go none y =
           record {
             idle = λ n f. absurd (spent (still ∙ f) (i .idle (sym same ∙ n) (still ∙ f)));
-            held = λ q n f x. absurd (spent (asked (sym same ∙ n)) (all-spent l (q .request) f (i .asked q (sym same ∙ n)) (i .within .frame f (sym same-frame ∙ x))));
+            held = λ q n f x.
+                let r = i .within .frame f (sym same-frame ∙ x) in
+                absurd (spent (asked (sym same ∙ n)) (all-spent l (q .request) f (i .asked q (sym same ∙ n)) r));
           }
         where
           d : e .seen .requests .delivered ≡ none
@@ -148,7 +152,8 @@ record Quiet (l : Log) (h : Past) : Type 0 where
   silent : Silent h
   granting : CleanGrants l
 
-module _ (l : Log) (s : Since) (e : Entry) (i : Lawful l) (x : sinceIn l ≡ some s) (st : Step (s .opening) (s .past) (e .seen)) (w : Wiring noFault (e ∷ l)) (j : Quiet l (s .past)) where
+module _ (l : Log) (s : Since) (e : Entry) (i : Lawful l) (x : sinceIn l ≡ some s) (st : Step (s .opening) (s .past) (e .seen))
+    (w : Wiring noFault (e ∷ l)) (j : Quiet l (s .past)) where
   quiet-more : Quiet (e ∷ l) (e .seen ∷ s .past)
   quiet-more =
       record {

@@ -26,8 +26,10 @@ calm-step : (o : Opening) (h : Past) (e : Seen) → Step o h e → Calm h → Ca
 unfolding openRequest faulted
 calm-step o h e (plain s) i f = rw (s .delivered, s .timeout, s .granted) (i (rw (s .timeout, s .recovered) at f))
 calm-step o h e (grants q z s) i f = absurd (false≢true (sym (z .calm) ∙ (rw (s .timeout, s .recovered) at f)))
-calm-step o h e (takes b a s) i f = rw (s .timeout, s .granted) (still-none (is (e .requests .delivered)) (openRequest h) (i (rw (s .timeout, s .recovered) at f)))
-calm-step o h e (answers q s) i f = rw (s .timeout, s .granted) (still-none (is (e .requests .delivered)) (openRequest h) (i (rw (s .timeout, s .recovered) at f)))
+calm-step o h e (takes b a s) i f =
+    rw (s .timeout, s .granted) (still-none (is (e .requests .delivered)) (openRequest h) (i (rw (s .timeout, s .recovered) at f)))
+calm-step o h e (answers q s) i f =
+    rw (s .timeout, s .granted) (still-none (is (e .requests .delivered)) (openRequest h) (i (rw (s .timeout, s .recovered) at f)))
 calm-step o h e (ends t s) i f = rw (s .delivered, s .timeout)
 calm-step o h e (restarts c z w s) i f = absurd (false≢true (rw (s .timeout, s .recovered) at f))
 

@@ -52,7 +52,8 @@ module _ (o : Opening) (h : Past) (e : Entry) (u : EscTelemetryUpdate) where
   unfolding startedRequest newlyStarted
   delivery (plain s) k = no-sample (s .delivered) k
   delivery (grants q f s) k = no-sample (s .delivered) k
-  delivery (takes b a s) k = booking (passing (e .seen) s) _ (timed (frameAt (wire h) b) (e .seen .now)) (λ f. frame (frameAt (wire h) b) refl f) (sym (s .delivered) ∙ k)
+  delivery (takes b a s) k =
+      booking (passing (e .seen) s) _ (timed (frameAt (wire h) b) (e .seen .now)) (λ f. frame (frameAt (wire h) b) refl f) (sym (s .delivered) ∙ k)
     where
       frame : (y : Option (List ℕ)) → frameAt (wire h) b ≡ y → (f : Frame) → timed y (e .seen .now) ≡ some f → latestFrame (e .seen ∷ h) ≡ some f
       frame none y f z = absurd (Option·none-ne-some f z)

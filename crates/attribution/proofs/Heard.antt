@@ -37,7 +37,8 @@ pub stamped-timeout : (e : Seen) (t : EscManagerTimeout) → e .requests .timeou
 stamped-timeout e t x = rw (x, or-true (is (e .wire .byte)), or-true (is (e .requests .granted))) (or-true (is (e .opening)))
 
 pub stamped-recovery : (e : Seen) → e .requests .recovered ≡ true → stamped e ≡ true
-stamped-recovery e x = rw (x, or-true (is (e .requests .timeout)), or-true (is (e .wire .byte)), or-true (is (e .requests .granted))) (or-true (is (e .opening)))
+stamped-recovery e x =
+    rw (x, or-true (is (e .requests .timeout)), or-true (is (e .wire .byte)), or-true (is (e .requests .granted))) (or-true (is (e .opening)))
 
 pub earlier-keeps : (l : Log) (e : Entry) → e .seen .requests .recovered ≡ false → e .seen .opening ≡ none → earlier (e ∷ l) ≡ earlier l
 unfolding atRecovery atOpening
@@ -66,7 +67,8 @@ pub quiet-grows : (h : Past) (e : Seen) → e .requests .timeout ≡ none → qu
 unfolding quietSince
 quiet-grows h e t = go (faulted h) refl (e .requests .acknowledged) refl (e .wire .byte) refl
   where
-    go : (f : Bool) → faulted h ≡ f → (a : Option Timed) → e .requests .acknowledged ≡ a → (b : Option Byte) → e .wire .byte ≡ b → quietSince h ≤ quietSince (e ∷ h)
+    go : (f : Bool) → faulted h ≡ f → (a : Option Timed) → e .requests .acknowledged ≡ a → (b : Option Byte) → e .wire .byte ≡ b
+        → quietSince h ≤ quietSince (e ∷ h)
     go f x none y none z = rw (t, y, z) (omega arith)
     go true x (some a) y b z = rw (t, y, x) (omega arith)
     go false x (some a) y b z = rw (t, y, x) (omega arith)

@@ -152,7 +152,8 @@ ruleLog ms = logOf (traceMarked [] ms)
 pub by-rule : (P : Log → Type 0) (ms : List Marked) → P (ruleLog ms) → P (logAfter ms)
 by-rule P ms = subst (λ (h : MarkedHistory). P (logOf h)) (sym (marked-by-rule ms))
 
-pub row : (ms : List Marked) → Row (logAfter ms) (wiringFails (ruleLog ms)) (timingFails (ruleLog ms)) (cuttingFails (ruleLog ms)) (booked (ruleLog ms)) (arms (ruleLog ms))
+pub row : (ms : List Marked)
+    → Row (logAfter ms) (wiringFails (ruleLog ms)) (timingFails (ruleLog ms)) (cuttingFails (ruleLog ms)) (booked (ruleLog ms)) (arms (ruleLog ms))
 row ms =
     by-rule (λ (l : Log). Row l (wiringFails (ruleLog ms)) (timingFails (ruleLog ms)) (cuttingFails (ruleLog ms)) (booked (ruleLog ms)) (arms (ruleLog ms))) ms
     (record { wires = refl; times = refl; cuts = refl; lanes = refl; sent = refl })

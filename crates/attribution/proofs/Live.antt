@@ -55,7 +55,8 @@ pub record Live : Type 0 where
   pub by-wiring : Newest flight CameFrom
   pub by-times : Newest flight CameFrom
   pub by-cuts : Newest flight CameFrom
-  pub noisy-comes : Row (logAfter noisy) (e1 ∷ e3 ∷ []) (e1 ∷ e3 ∷ []) [] (0 ∷ 1 ∷ []) (replicate 7 none ++ (replicate 11 (some 0) ++ (replicate 3 none ++ replicate 10 (some 1))))
+  pub noisy-comes : Row (logAfter noisy) (e1 ∷ e3 ∷ []) (e1 ∷ e3 ∷ []) [] (0 ∷ 1 ∷ [])
+      (replicate 7 none ++ (replicate 11 (some 0) ++ (replicate 3 none ++ replicate 10 (some 1))))
   pub noisy-by-cuts : Newest noisy CameFrom
 
 pub live : Live
@@ -64,8 +65,14 @@ live =
     record {
       flight-comes = row flight;
       by-wiring = newest-by flight CameFrom (Wiring noFault) (attributed flight) refl (record { e1 = refl; e2 = refl; e3 = refl; e4 = refl; e5 = refl });
-      by-times = newest-by flight CameFrom Timing (attributed-by-times flight) refl (record { e1 = refl; e2 = refl; e3 = refl; clock = refl; answer = refl; reopening = refl });
-      by-cuts = newest-by flight CameFrom Cutting (attributed-by-cuts flight) refl (record { wiring = record { e1 = refl; e2 = refl; e3 = refl; e4 = refl; e5 = refl }; cuts = refl });
+      by-times =
+          newest-by flight CameFrom Timing (attributed-by-times flight) refl
+          (record { e1 = refl; e2 = refl; e3 = refl; clock = refl; answer = refl; reopening = refl });
+      by-cuts =
+          newest-by flight CameFrom Cutting (attributed-by-cuts flight) refl
+          (record { wiring = record { e1 = refl; e2 = refl; e3 = refl; e4 = refl; e5 = refl }; cuts = refl });
       noisy-comes = row noisy;
-      noisy-by-cuts = newest-by noisy CameFrom Cutting (attributed-by-cuts noisy) refl (record { wiring = record { e1 = refl; e2 = refl; e3 = refl; e4 = refl; e5 = refl }; cuts = refl });
+      noisy-by-cuts =
+          newest-by noisy CameFrom Cutting (attributed-by-cuts noisy) refl
+          (record { wiring = record { e1 = refl; e2 = refl; e3 = refl; e4 = refl; e5 = refl }; cuts = refl });
     }

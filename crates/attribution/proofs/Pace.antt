@@ -90,7 +90,8 @@ module _ (P : ℕ) (l : Log) (e : Entry) (a : Given P (e ∷ l)) where
     next = some (record { opening = s .opening; past = e .seen ∷ s .past })
 
     -- no grant
-    same-paced : e .seen .requests .granted ≡ none → ((k : ℕ) → length (requests l) ≡ suc k → each (noOther k) (takenSince (e ∷ l)) ≡ true) → Paced P (e ∷ l) next
+    same-paced : e .seen .requests .granted ≡ none → ((k : ℕ) → length (requests l) ≡ suc k → each (noOther k) (takenSince (e ∷ l)) ≡ true)
+        → Paced P (e ∷ l) next
     unfolding lastQueued queuedAt
     same-paced g own =
         record {

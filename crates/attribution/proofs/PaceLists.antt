@@ -140,7 +140,8 @@ pace-lists =
     record {
       flight-comes = row noisyFlight;
       flight-right =
-          newest-by noisyFlight NoOtherArm (Pace 20) (never-another-arm 20 noisyFlight refl) refl (record { asked = refl; clock = refl; set = refl; cut = refl });
+          newest-by noisyFlight NoOtherArm (Pace 20) (never-another-arm 20 noisyFlight refl) refl
+          (record { asked = refl; clock = refl; set = refl; cut = refl });
       legacy = λ t. refl;
       legacy-most = λ t. refl;
       late-comes = row tooLate;

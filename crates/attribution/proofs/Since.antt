@@ -15,7 +15,8 @@ module _ (l : Log) (e : Entry) where
   unfolding takenSince
   since-same g b = rw (g, b) (append-nil (takenSince l))
 
-  pub since-more : e .seen .requests .granted ≡ none → (b : Byte) → e .seen .wire .byte ≡ some b → takenSince (e ∷ l) ≡ takenSince l ++ record { byte = b; origin = e .origin } ∷ []
+  pub since-more : e .seen .requests .granted ≡ none → (b : Byte) → e .seen .wire .byte ≡ some b
+      → takenSince (e ∷ l) ≡ takenSince l ++ record { byte = b; origin = e .origin } ∷ []
   unfolding takenSince
   since-more g b x = rw (g, x)
 

@@ -52,7 +52,8 @@ pub data Step (o : Opening) (h : Past) (e : Seen) : Type 0 where
   -- a 02 answered yes
   grants : (q : EscActuatorRequest) → Free o h (e .now) → Shows e (some (record { request = q; at = e .now })) none none none false → Step o h e
   -- a 05
-  takes : (b : ℕ) → e .requests .acknowledged ≡ none → Shows e none (some (record { value = b; at = e .now })) (bookedTo (startedRequest h) (timed (frameAt (wire h) b) (e .now))) none false → Step o h e
+  takes : (b : ℕ) → e .requests .acknowledged ≡ none
+      → Shows e none (some (record { value = b; at = e .now })) (bookedTo (startedRequest h) (timed (frameAt (wire h) b) (e .now))) none false → Step o h e
   -- a 03
   answers : (q : EscActuatorRequest) → Shows e none none (bookedTo (newlyStarted h q) (latestFrame h)) none false → Step o h e
   -- a 04 answered with a timeout
@@ -93,7 +94,8 @@ module _ (o : Opening) (h : Past) where
       → Step o h (seen (kind.ActuatorAck k now) (answer.Ack (ackAnswer (newlyStarted h (k .request)) (latestFrame h) says)))
   ack-step k now says = answers (k .request) (go (newlyStarted h (k .request)) (latestFrame h))
     where
-      go : (x : Option EscActuatorRequest) (f : Option Frame) → Shows (seen (kind.ActuatorAck k now) (answer.Ack (ackAnswer x f says))) none none (bookedTo x f) none false
+      go : (x : Option EscActuatorRequest) (f : Option Frame)
+          → Shows (seen (kind.ActuatorAck k now) (answer.Ack (ackAnswer x f says))) none none (bookedTo x f) none false
       go none f = shows _ refl
       go (some q) none = shows _ refl
       go (some q) (some f) = shows _ refl
@@ -102,7 +104,8 @@ module _ (o : Opening) (h : Past) where
       → Step o h (seen (kind.WireByte b now) (answer.Wire (wireAnswerOf (bookedTo (startedRequest h) (timed (frameAt (wire h) b) now)) says)))
   byte-step b now says = takes b refl (go (bookedTo (startedRequest h) (timed (frameAt (wire h) b) now)))
     where
-      go : (u : Option EscTelemetryUpdate) → Shows (seen (kind.WireByte b now) (answer.Wire (wireAnswerOf u says))) none (some (record { value = b; at = now })) u none false
+      go : (u : Option EscTelemetryUpdate)
+          → Shows (seen (kind.WireByte b now) (answer.Wire (wireAnswerOf u says))) none (some (record { value = b; at = now })) u none false
       go none = shows _ refl
       go (some u) = shows _ refl
 

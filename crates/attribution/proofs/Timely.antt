@@ -50,7 +50,8 @@ module _ (l : Log) (h : Past) (quiet now : ℕ) (i : Timely l h quiet) (f : faul
 
 module _ (o : Opening) (l : Log) (h : Past) (e : Entry) (i : Timely l h (o .config .«recovery_quiet_ms»))
     (clock : stamped (e .seen) ≡ true → clockAt l ≤ e .seen .now)
-    (prompts : (b : Byte) → e .seen .wire .byte ≡ some b → faulted h ≡ false → (k : ℕ) → e .origin ≡ some k → e .seen .now < heardAt k l + o .config .«recovery_quiet_ms») where
+    (prompts : (b : Byte) → e .seen .wire .byte ≡ some b → faulted h ≡ false
+    → (k : ℕ) → e .origin ≡ some k → e .seen .now < heardAt k l + o .config .«recovery_quiet_ms») where
   abbrev quiet : ℕ
   quiet = o .config .«recovery_quiet_ms»
 
@@ -71,7 +72,8 @@ module _ (o : Opening) (l : Log) (h : Past) (e : Entry) (i : Timely l h (o .conf
       still = fault-keeps h (e .seen) (s .timeout) (s .recovered)
 
   -- a grant is not of an earlier request
-  grant-timely : (q : EscActuatorRequest) → faulted h ≡ false → Shows (e .seen) (some (record { request = q; at = e .seen .now })) none none none false → Timely (e ∷ l) (e .seen ∷ h) quiet
+  grant-timely : (q : EscActuatorRequest) → faulted h ≡ false
+      → Shows (e .seen) (some (record { request = q; at = e .seen .now })) none none none false → Timely (e ∷ l) (e .seen ∷ h) quiet
   unfolding requests
   grant-timely q f s =
       record {
@@ -97,7 +99,8 @@ module _ (o : Opening) (l : Log) (h : Past) (e : Entry) (i : Timely l h (o .conf
           rw (now-heard k, z) (omega (arith, i .rested f k y, clock-grows l e))
 
   -- a byte moves the quiet start while faulted, and else is not of an earlier request
-  byte-timely : (b : ℕ) (d : Option EscTelemetryUpdate) → e .seen .requests .acknowledged ≡ none → Shows (e .seen) none (some (record { value = b; at = e .seen .now })) d none false → Timely (e ∷ l) (e .seen ∷ h) quiet
+  byte-timely : (b : ℕ) (d : Option EscTelemetryUpdate) → e .seen .requests .acknowledged ≡ none
+      → Shows (e .seen) none (some (record { value = b; at = e .seen .now })) d none false → Timely (e ∷ l) (e .seen ∷ h) quiet
   unfolding quietSince
   byte-timely b d a s =
       record {
@@ -166,7 +169,8 @@ module _ (o : Opening) (l : Log) (h : Past) (e : Entry) (i : Timely l h (o .conf
       begins = rw (s .timeout)
 
   -- a recovery comes the quiet time after all that was heard
-  recovery-timely : faulted h ≡ true → quiet * 2 ^ min (retries h) 3 ≤ e .seen .now - quietSince h → Shows (e .seen) none none none none true → Timely (e ∷ l) (e .seen ∷ h) quiet
+  recovery-timely : faulted h ≡ true → quiet * 2 ^ min (retries h) 3 ≤ e .seen .now - quietSince h → Shows (e .seen) none none none none true
+      → Timely (e ∷ l) (e .seen ∷ h) quiet
   unfolding faulted atRecovery atOpening
   recovery-timely f w s =
       record {
@@ -239,7 +243,8 @@ module _ (l : Log) (e : Entry) (t : Times (e ∷ l)) where
   pub clock-holds : stamped (e .seen) ≡ true → clockAt l ≤ e .seen .now
   clock-holds m = leb-true _ _ (rw m at (now steadyClock l e (t .clock)))
 
-  pub answer-now : (b : Byte) → e .seen .wire .byte ≡ some b → faulted (past l) ≡ false → (k : ℕ) → e .origin ≡ some k → e .seen .now < heardAt k l + quietTime l
+  pub answer-now : (b : Byte) → e .seen .wire .byte ≡ some b → faulted (past l) ≡ false
+      → (k : ℕ) → e .origin ≡ some k → e .seen .now < heardAt k l + quietTime l
   answer-now b x f k o = ltb-true _ _ (rw (x, f, o) at (now prompt l e (t .prompts)))
 
   wait-now : waitsFor l (e .seen .opening) ≡ true

@@ -32,7 +32,8 @@ clean-keeps h e b i = go (e .seen .wire .cut) refl
     go false x = ap (λ (w : List OnWire). latest w 1) (wire-same h e b false x) ∙ i
 
 -- a frame end gives the latest frame
-pub latest-now : (h : Past) (e : Entry) → e .seen .requests .granted ≡ none → (b : Byte) → e .seen .wire .byte ≡ some b → (f : List ℕ) → frameAt (wire h) (b .value) ≡ some f
+pub latest-now : (h : Past) (e : Entry) → e .seen .requests .granted ≡ none → (b : Byte) → e .seen .wire .byte ≡ some b → (f : List ℕ)
+    → frameAt (wire h) (b .value) ≡ some f
     → latestFrame (e .seen ∷ h) ≡ some (record { bytes = f; at = b .at })
 unfolding latestFrame
 latest-now h e g b x f y = rw (g, x, y)
@@ -53,7 +54,8 @@ unfolding latestFrame
 frame-other h e g b x z = rw (g, x, z)
 
 -- a cut takes bytes off the wire, and nothing puts one there
-pub latest-same : (h : Past) (e : Entry) → e .seen .wire .byte ≡ none → (n : ℕ) (bs : List ℕ) → latest (wire (e .seen ∷ h)) n ≡ some bs → latest (wire h) n ≡ some bs
+pub latest-same : (h : Past) (e : Entry) → e .seen .wire .byte ≡ none → (n : ℕ) (bs : List ℕ) → latest (wire (e .seen ∷ h)) n ≡ some bs
+    → latest (wire h) n ≡ some bs
 unfolding latest
 latest-same h e b n bs = go (e .seen .wire .cut) refl n
   where
