@@ -7,8 +7,7 @@ use mathlib.Core.Bool.{Bool, true, false, not, true≢false, false≢true}
 use Prim.Native.Nat.{ℕ}
 use lib.ListN.{length}
 use Rattle.esc_feedback.specs.declared.request.EscActuatorRequest.{EscActuatorRequest}
-use Rattle.esc_unit.specs.Unit.{opens}
-use Rattle.esc_records.specs.declared.record.Record.{Record}
+use Rattle.esc_feedback.specs.declared.request.EscTelemetryUpdate.{EscTelemetryUpdate}
 use Rattle.base.specs.Maybe.{is}
 use Rattle.booking.specs.History.{Opening, Timed, Byte, Past, Since}
 use Rattle.booking.specs.Wire.{OnWire, byte, Frame, wire, latest, frameAt, timed}
@@ -19,14 +18,17 @@ use Rattle.attribution.specs.Marks.{Entry, Log, sinceIn, past}
 use Rattle.attribution.specs.Origin.{requests}
 use Rattle.attribution.specs.Wiring.{noFault, Wiring}
 use Rattle.attribution.specs.Attributed.{Attributed}
-use Rattle.attribution.proofs.LawfulLog.{Lawful, opened, more, lawful-at}
-use Rattle.attribution.proofs.Steps.{Shows, Step, plain, grants, takes, answers, ends, restarts, step, entryOf, past-more}
+use Rattle.attribution.proofs.LawfulLog.{Lawful, lawful-at}
+use Rattle.attribution.proofs.Steps.{Shows, Step, plain, grants, takes, answers, ends, restarts}
+use Rattle.attribution.proofs.Along.{openingOf, along}
 use Rattle.attribution.proofs.Calm.{Calm, calm}
 use Rattle.attribution.proofs.Latest.{Clean, clean-end}
 use Rattle.attribution.proofs.Spent.{Spent, Origin, none-left, wiring-before, origin}
 use Rattle.attribution.proofs.WireSteps.{wire-same, wire-more, clean-keeps, frame-same}
+use Rattle.attribution.proofs.Within.{CleanGrants}
+use Rattle.attribution.proofs.Delivery.{delivery}
 use Rattle.attribution.proofs.Asked.{all-spent}
-use Rattle.attribution.proofs.CameFrom.{the-open, Stands, Covers, CleanGrants, stands, came-from}
+use Rattle.attribution.proofs.CameFrom.{Stands, Covers, stands}
 
 covers : Covers noFault
 covers l i k = go (faulted (past l)) refl
@@ -59,7 +61,9 @@ module _ (o : Opening) (l : Log) (h : Past) (e : Entry) (i : Stands l h) (unaske
       same = rw (s .delivered, s .timeout, s .granted)
 
   -- a frame end leaves the wire clean; any other byte comes while a request is open and has no frame
-  byte-silent : (b : ℕ) → Shows (e .seen) none (some (record { value = b; at = e .seen .now })) (bookedTo (startedRequest h) (timed (frameAt (wire h) b) (e .seen .now))) none false → Silent (e .seen ∷ h)
+  byte-silent : (b : ℕ)
+      → Shows (e .seen) none (some (record { value = b; at = e .seen .now })) (bookedTo (startedRequest h) (timed (frameAt (wire h) b) (e .seen .now))) none false
+      → Silent (e .seen ∷ h)
   unfolding openRequest faulted latestFrame
   byte-silent b s = go (frameAt (wire h) b) refl
     where
@@ -76,7 +80,9 @@ module _ (o : Opening) (l : Log) (h : Past) (e : Entry) (i : Stands l h) (unaske
       go none y =
           record {
             idle = λ n f. absurd (spent (still ∙ f) (i .idle (sym same ∙ n) (still ∙ f)));
-            held = λ q n f x. absurd (spent (asked (sym same ∙ n)) (all-spent l h (q .request) f (i .asked q (sym same ∙ n)) (sym same-frame ∙ x)));
+            held = λ q n f x.
+                let r = i .within .frame f (sym same-frame ∙ x) in
+                absurd (spent (asked (sym same ∙ n)) (all-spent l (q .request) f (i .asked q (sym same ∙ n)) r));
           }
         where
           d : e .seen .requests .delivered ≡ none
@@ -100,24 +106,21 @@ module _ (o : Opening) (l : Log) (h : Past) (e : Entry) (i : Stands l h) (unaske
 
   -- where an acknowledgement gives a held frame, the wire was clean
   ack-silent : (p : EscActuatorRequest) → Shows (e .seen) none none (bookedTo (newlyStarted h p) (latestFrame h)) none false → Silent (e .seen ∷ h)
-  unfolding openRequest newlyStarted
-  ack-silent p s = go (newlyStarted h p) refl (latestFrame h) refl
+  ack-silent p s = go (e .seen .requests .delivered) refl
     where
-      passed : e .seen .requests .delivered ≡ none → Silent (e .seen ∷ h)
-      passed d = same-silent (record { opening = s .opening; granted = s .granted; byte = s .byte; delivered = d; timeout = s .timeout; recovered = s .recovered })
-
-      go : (x : Option EscActuatorRequest) → newlyStarted h p ≡ x → (f : Option Frame) → latestFrame h ≡ f → Silent (e .seen ∷ h)
-      go none x f y = passed (s .delivered ∙ rw x)
-      go (some q) x none y = passed (s .delivered ∙ rw (x, y))
-      go (some q) x (some f) y =
-          let t = the-open (openRequest h) _ q x in
-          let k : Clean (wire (e .seen ∷ h)) = clean-keeps h e (s .byte) (c .held (t .found) (t .there) f y) in
-          record { idle = λ n z. k; held = λ q n f z. k }
+      go : (u : Option EscTelemetryUpdate) → e .seen .requests .delivered ≡ u → Silent (e .seen ∷ h)
+      go none d =
+          same-silent (record { opening = s .opening; granted = s .granted; byte = s .byte; delivered = d; timeout = s .timeout; recovered = s .recovered })
+      go (some u) k =
+          let d = delivery o h e u (answers p s) k in
+          let clean = c .held (d .asked) (d .there) (d .frame) (sym (frame-same h e (s .granted) (s .byte)) ∙ d .latest) in
+          let z : Clean (wire (e .seen ∷ h)) = clean-keeps h e (s .byte) clean in
+          record { idle = λ n f. z; held = λ q n f x. z }
 
   silent-step : Step o h (e .seen) → Silent (e .seen ∷ h)
   unfolding openRequest faulted latestFrame latest
   silent-step (plain s) = same-silent s
-  silent-step (grants q n f s) =
+  silent-step (grants q f s) =
       record {
         idle = λ x. absurd (Option·some-ne-none _ (rw (s .delivered, s .timeout, s .granted) at x));
         held = λ q x f y. absurd (Option·none-ne-some f (rw (s .granted) at y));
@@ -135,53 +138,50 @@ module _ (o : Opening) (l : Log) (h : Past) (e : Entry) (i : Stands l h) (unaske
 
   clean-grant : Step o h (e .seen) → (g : Timed) → e .seen .requests .granted ≡ some g → Clean (wire h)
   clean-grant (plain s) g k = absurd (Option·none-ne-some g (sym (s .granted) ∙ k))
-  clean-grant (grants q n f s) g k = c .idle n f
+  clean-grant (grants q f s) g k = c .idle (f .unasked) (f .calm)
   clean-grant (takes b a s) g k = absurd (Option·none-ne-some g (sym (s .granted) ∙ k))
   clean-grant (answers q s) g k = absurd (Option·none-ne-some g (sym (s .granted) ∙ k))
   clean-grant (ends t s) g k = absurd (Option·none-ne-some g (sym (s .granted) ∙ k))
   clean-grant (restarts x f w s) g k = absurd (Option·none-ne-some g (sym (s .granted) ∙ k))
 
-record Quiet (l : Log) : Type 0 where
-  silent : Silent (past l)
-  granting : CleanGrants l
-
-quiet-more : (l : Log) (s : Since) (r : Record) (o : Option ℕ) → sinceIn l ≡ some s → opens r ≡ false → Lawful l → Quiet l → Wiring noFault (entryOf s r o ∷ l) → Quiet (entryOf s r o ∷ l)
-quiet-more l s r o x f i j w =
-    record {
-      silent = subst Silent (sym (past-more l s r o x f)) (silent-step (s .opening) l (s .past) e at-l calm-l silent-l known (step (s .opening) (s .past) r f));
-      granting = (λ g k. subst (λ (h : Past). Clean (wire h)) (sym same) (clean-grant (s .opening) l (s .past) e at-l calm-l silent-l known (step (s .opening) (s .past) r f) g k), j .granting);
-    }
-  where
-    e : Entry
-    e = entryOf s r o
-
-    same : past l ≡ s .past
-    same = ap pastOf x
-
-    at-l : Stands l (s .past)
-    at-l = subst (Stands l) same (stands noFault covers l i (wiring-before noFault l e w) (j .granting))
-
-    calm-l : Calm (s .past)
-    calm-l = subst Calm same (calm l i)
-
-    silent-l : Silent (s .past)
-    silent-l = subst Silent same (j .silent)
-
-    known : (b : Byte) → e .seen .wire .byte ≡ some b → faulted (s .past) ≡ false → Origin l (e .origin)
-    known b y f = origin noFault l e w b y (ap not (ap faulted same ∙ f))
-
 silent-new : Silent []
 unfolding openRequest wire latest
 silent-new = record { idle = λ n f. refl; held = λ q n f x. refl }
 
-quiet : (l : Log) → Lawful l → Wiring noFault l → Quiet l
-unfolding sinceIn
-quiet [] i w = record { silent = silent-new; granting = tt }
-quiet (e ∷ l) (opened c t o i) w =
-    record { silent = silent-new; granting = (λ g k. absurd (Option·none-ne-some g k), quiet l i (wiring-before noFault l e w) .granting) }
-quiet (e ∷ l) (more s r o x f i) w = quiet-more l s r o x f i (quiet l i (wiring-before noFault l e w)) w
+record Quiet (l : Log) (h : Past) : Type 0 where
+  silent : Silent h
+  granting : CleanGrants l
+
+module _ (l : Log) (s : Since) (e : Entry) (i : Lawful l) (x : sinceIn l ≡ some s) (st : Step (s .opening) (s .past) (e .seen))
+    (w : Wiring noFault (e ∷ l)) (j : Quiet l (s .past)) where
+  quiet-more : Quiet (e ∷ l) (e .seen ∷ s .past)
+  quiet-more =
+      record {
+        silent = silent-step (s .opening) l (s .past) e at-l calm-l (j .silent) known st;
+        granting =
+            (λ g k. subst (λ (h : Past). Clean (wire h)) (sym same) (clean-grant (s .opening) l (s .past) e at-l calm-l (j .silent) known st g k), j .granting);
+      }
+    where
+      same : past l ≡ s .past
+      same = ap pastOf x
+
+      at-l : Stands l (s .past)
+      at-l = subst (Stands l) same (stands noFault covers l i (wiring-before noFault l e w) (j .granting))
+
+      calm-l : Calm (s .past)
+      calm-l = subst Calm same (calm l i)
+
+      known : (b : Byte) → e .seen .wire .byte ≡ some b → faulted (s .past) ≡ false → Origin l (e .origin)
+      known b y f = origin noFault l e w b y (ap not (ap faulted same ∙ f))
+
+quiet : (l : Log) → Lawful l → Wiring noFault l → Quiet l (past l)
+quiet =
+    along (λ l s. Wiring noFault l → Quiet l (pastOf s)) (λ w. record { silent = silent-new; granting = tt })
+    (λ l c t o i w.
+    record { silent = silent-new; granting = (λ g k. absurd (Option·none-ne-some g k), i (wiring-before noFault l (openingOf c t o) w) .granting) })
+    (λ l s e k x st i w. quiet-more l s e k x st w (i (wiring-before noFault l e w)))
 
 pub attributed : Attributed
 attributed ms later e l u x d w =
     let i = lawful-at ms later (e ∷ l) x in
-    came-from noFault covers e l u i w (quiet (e ∷ l) i w .granting) d
+    stands noFault covers (e ∷ l) i w (quiet (e ∷ l) i w .granting) .came-from u d

@@ -22,7 +22,8 @@ use Rattle.attribution.proofs.Heard.{earlier, stamped-byte}
 use Rattle.attribution.proofs.Timely.{not-earlier, TimelySince, Times, times-before, clock-holds, answer-now, timely}
 
 -- a byte's origin is no earlier request
-late-enough : (l : Log) (e : Entry) → TimelySince l (sinceIn l) → Times (e ∷ l) → (n : ℕ) → n ≤ earlier l → ofEachByte noFault (ofOrigin (λ k. leb n k)) l e ≡ true
+late-enough : (l : Log) (e : Entry) → TimelySince l (sinceIn l) → Times (e ∷ l) → (n : ℕ) → n ≤ earlier l
+    → ofEachByte noFault (ofOrigin (λ k. leb n k)) l e ≡ true
 late-enough l e i t n m = go (e .seen .wire .byte) refl (faulted (past l)) refl (e .origin) refl
   where
     go : (b : Option Byte) → e .seen .wire .byte ≡ b → (f : Bool) → faulted (past l) ≡ f → (o : Option ℕ) → e .origin ≡ o

@@ -1,6 +1,6 @@
 -- While a fault stands no request is open: a timeout ends the request, and none is granted before the recovery.
-use mathlib.Core.Path.{_≡_, refl, sym, _∙_, subst}
-use mathlib.Core.List.{[], _∷_}
+use mathlib.Core.Path.{_≡_, refl, sym, _∙_}
+use mathlib.Core.List.{_∷_}
 use mathlib.Core.Option.{Option, none}
 use mathlib.Core.Bool.{Bool, true, false, _||_, false≢true}
 use Rattle.base.specs.Choice.{pick}
@@ -8,9 +8,11 @@ use Rattle.base.specs.Maybe.{is}
 use Rattle.booking.specs.History.{Opening, Timed, Seen, Past}
 use Rattle.booking.specs.Booking.{openRequest}
 use Rattle.booking.specs.Faults.{faulted}
-use Rattle.attribution.specs.Marks.{Log, sinceIn, past}
-use Rattle.attribution.proofs.LawfulLog.{Lawful, start, opened, more}
-use Rattle.attribution.proofs.Steps.{Step, plain, grants, takes, answers, ends, restarts, step, past-more}
+use Rattle.booking.specs.Claims.{pastOf}
+use Rattle.attribution.specs.Marks.{Log, past}
+use Rattle.attribution.proofs.LawfulLog.{Lawful}
+use Rattle.attribution.proofs.Steps.{Step, plain, grants, takes, answers, ends, restarts}
+use Rattle.attribution.proofs.Along.{along}
 
 abbrev pub Calm : Past → Type 0
 Calm h = faulted h ≡ true → openRequest h ≡ none
@@ -23,15 +25,14 @@ still-none false x e = e
 calm-step : (o : Opening) (h : Past) (e : Seen) → Step o h e → Calm h → Calm (e ∷ h)
 unfolding openRequest faulted
 calm-step o h e (plain s) i f = rw (s .delivered, s .timeout, s .granted) (i (rw (s .timeout, s .recovered) at f))
-calm-step o h e (grants q n z s) i f = absurd (false≢true (sym z ∙ (rw (s .timeout, s .recovered) at f)))
-calm-step o h e (takes b a s) i f = rw (s .timeout, s .granted) (still-none (is (e .requests .delivered)) (openRequest h) (i (rw (s .timeout, s .recovered) at f)))
-calm-step o h e (answers q s) i f = rw (s .timeout, s .granted) (still-none (is (e .requests .delivered)) (openRequest h) (i (rw (s .timeout, s .recovered) at f)))
+calm-step o h e (grants q z s) i f = absurd (false≢true (sym (z .calm) ∙ (rw (s .timeout, s .recovered) at f)))
+calm-step o h e (takes b a s) i f =
+    rw (s .timeout, s .granted) (still-none (is (e .requests .delivered)) (openRequest h) (i (rw (s .timeout, s .recovered) at f)))
+calm-step o h e (answers q s) i f =
+    rw (s .timeout, s .granted) (still-none (is (e .requests .delivered)) (openRequest h) (i (rw (s .timeout, s .recovered) at f)))
 calm-step o h e (ends t s) i f = rw (s .delivered, s .timeout)
 calm-step o h e (restarts c z w s) i f = absurd (false≢true (rw (s .timeout, s .recovered) at f))
 
 pub calm : (l : Log) → Lawful l → Calm (past l)
-unfolding openRequest sinceIn
-calm [] start = λ f. refl
-calm (e ∷ l) (opened c t o i) = λ f. refl
-calm (e ∷ l) (more s r o x z i) =
-    subst Calm (sym (past-more l s r o x z)) (calm-step (s .opening) (s .past) _ (step (s .opening) (s .past) r z) (rw x at (calm l i)))
+unfolding openRequest
+calm = along (λ l s. Calm (pastOf s)) (λ f. refl) (λ l c t o i f. refl) (λ l s e k x st i. calm-step (s .opening) (s .past) (e .seen) st i)

@@ -15,22 +15,17 @@ use Rattle.booking.specs.Faults.{faulted, quietSince}
 use Rattle.attribution.specs.Marks.{Entry, Log}
 use Rattle.attribution.specs.Origin.{requests, atRecovery, atOpening}
 use Rattle.attribution.specs.Times.{stamped, clockAt, byteAt, heardAt}
+use Rattle.attribution.proofs.Clock.{time-grows, time-now}
 
 -- how many requests are earlier than the latest recovery or opening
 abbrev pub earlier : Log → ℕ
 earlier l = max (atRecovery l) (atOpening l)
 
 pub clock-grows : (l : Log) (e : Entry) → clockAt l ≤ clockAt (e ∷ l)
-unfolding clockAt
-clock-grows l e = go (stamped (e .seen))
-  where
-    go : (b : Bool) → clockAt l ≤ pick b (max (clockAt l) (e .seen .now)) (clockAt l)
-    go true = omega arith
-    go false = omega arith
+clock-grows l e = time-grows stamped l e
 
 pub clock-now : (l : Log) (e : Entry) → stamped (e .seen) ≡ true → e .seen .now ≤ clockAt (e ∷ l)
-unfolding clockAt
-clock-now l e s = rw s (omega arith)
+clock-now l e s = time-now stamped l e s
 
 pub stamped-grant : (e : Seen) (g : Timed) → e .requests .granted ≡ some g → stamped e ≡ true
 stamped-grant e g x = rw x (or-true (is (e .opening)))
@@ -42,7 +37,8 @@ pub stamped-timeout : (e : Seen) (t : EscManagerTimeout) → e .requests .timeou
 stamped-timeout e t x = rw (x, or-true (is (e .wire .byte)), or-true (is (e .requests .granted))) (or-true (is (e .opening)))
 
 pub stamped-recovery : (e : Seen) → e .requests .recovered ≡ true → stamped e ≡ true
-stamped-recovery e x = rw (x, or-true (is (e .requests .timeout)), or-true (is (e .wire .byte)), or-true (is (e .requests .granted))) (or-true (is (e .opening)))
+stamped-recovery e x =
+    rw (x, or-true (is (e .requests .timeout)), or-true (is (e .wire .byte)), or-true (is (e .requests .granted))) (or-true (is (e .opening)))
 
 pub earlier-keeps : (l : Log) (e : Entry) → e .seen .requests .recovered ≡ false → e .seen .opening ≡ none → earlier (e ∷ l) ≡ earlier l
 unfolding atRecovery atOpening
@@ -71,7 +67,8 @@ pub quiet-grows : (h : Past) (e : Seen) → e .requests .timeout ≡ none → qu
 unfolding quietSince
 quiet-grows h e t = go (faulted h) refl (e .requests .acknowledged) refl (e .wire .byte) refl
   where
-    go : (f : Bool) → faulted h ≡ f → (a : Option Timed) → e .requests .acknowledged ≡ a → (b : Option Byte) → e .wire .byte ≡ b → quietSince h ≤ quietSince (e ∷ h)
+    go : (f : Bool) → faulted h ≡ f → (a : Option Timed) → e .requests .acknowledged ≡ a → (b : Option Byte) → e .wire .byte ≡ b
+        → quietSince h ≤ quietSince (e ∷ h)
     go f x none y none z = rw (t, y, z) (omega arith)
     go true x (some a) y b z = rw (t, y, x) (omega arith)
     go false x (some a) y b z = rw (t, y, x) (omega arith)

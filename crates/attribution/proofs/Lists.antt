@@ -18,14 +18,22 @@ use Rattle.attribution.specs.Origin.{requests}
 use Rattle.attribution.specs.Wiring.{always, Scope, noFault, noNoise, askedFirst, oneFrame, quietRecovery, quietOpening}
 use Rattle.attribution.specs.Times.{steadyClock, prompt, patientOpening}
 use Rattle.attribution.specs.Cutting.{asking, cutFirst}
+use Rattle.attribution.specs.Pace.{askedAndDoneInTime, oneClock, settings, aCut}
 use Rattle.attribution.proofs.ByRule.{traceMarked, marked-by-rule}
 
--- records: no boot delay, no period, acknowledgement timeout 20 where none is given, response timeout 100, quiet time 500
-abbrev unmarked : List ℕ → Marked
+abbrev pub unmarked : List ℕ → Marked
 unmarked bytes = record { call = roomy bytes; origin = none }
 
+-- with a boot delay and a period, or none; acknowledgement timeout 20 where none is given, response timeout 100, quiet time 500
+abbrev settingOf : ℕ → ℕ → ℕ → ℕ → Marked
+settingOf delay period ackTimeout t =
+    unmarked (0x00 ∷ (bytesOf 4 delay ++ (bytesOf 4 period ++ (bytesOf 4 ackTimeout ++ (bytesOf 4 100 ++ (bytesOf 4 500 ++ bytesOf 8 t))))))
+
+abbrev pub openingPaced : ℕ → ℕ → ℕ → Marked
+openingPaced delay period t = settingOf delay period 20 t
+
 abbrev pub openingWith : ℕ → ℕ → Marked
-openingWith ackTimeout t = unmarked (0x00 ∷ (bytesOf 4 0 ++ (bytesOf 4 0 ++ (bytesOf 4 ackTimeout ++ (bytesOf 4 100 ++ (bytesOf 4 500 ++ bytesOf 8 t))))))
+openingWith ackTimeout t = settingOf 0 0 ackTimeout t
 
 abbrev pub opening : ℕ → Marked
 opening t = openingWith 20 t
@@ -82,7 +90,7 @@ arms l = armsIn (requests l) l
 
 -- the assumptions, by name
 pub data Name : Type 0 where
-  e1 e2 e3 e4 e5 clock answer reopening cutting : Name
+  e1 e2 e3 e4 e5 clock answer reopening cutting askedInTime spacing : Name
 
 pub record Named : Type 0 where
   pub name : Name
@@ -119,6 +127,16 @@ timingFails l =
 abbrev pub cuttingFails : Log → List Name
 cuttingFails l = failing (five asking l ++ record { name = cutting; holds = always cutFirst l } ∷ [])
 
+-- and those of the form with noise
+abbrev pub paceFails : ℕ → Log → List Name
+paceFails P l =
+    failing
+    (record { name = askedInTime; holds = always (askedAndDoneInTime P) l }
+    ∷ record { name = clock; holds = always oneClock l }
+    ∷ record { name = spacing; holds = always (settings P) l }
+    ∷ record { name = cutting; holds = always aCut l }
+    ∷ [])
+
 -- what fails of a list in each of the three forms, where its samples went and where its bytes came from
 pub record Row (l : Log) (wiring timing cutting : List Name) (to : List ℕ) (from : List (Option ℕ)) : Type 0 where
   pub wires : wiringFails l ≡ wiring
@@ -134,7 +152,8 @@ ruleLog ms = logOf (traceMarked [] ms)
 pub by-rule : (P : Log → Type 0) (ms : List Marked) → P (ruleLog ms) → P (logAfter ms)
 by-rule P ms = subst (λ (h : MarkedHistory). P (logOf h)) (sym (marked-by-rule ms))
 
-pub row : (ms : List Marked) → Row (logAfter ms) (wiringFails (ruleLog ms)) (timingFails (ruleLog ms)) (cuttingFails (ruleLog ms)) (booked (ruleLog ms)) (arms (ruleLog ms))
+pub row : (ms : List Marked)
+    → Row (logAfter ms) (wiringFails (ruleLog ms)) (timingFails (ruleLog ms)) (cuttingFails (ruleLog ms)) (booked (ruleLog ms)) (arms (ruleLog ms))
 row ms =
     by-rule (λ (l : Log). Row l (wiringFails (ruleLog ms)) (timingFails (ruleLog ms)) (cuttingFails (ruleLog ms)) (booked (ruleLog ms)) (arms (ruleLog ms))) ms
     (record { wires = refl; times = refl; cuts = refl; lanes = refl; sent = refl })

@@ -1,8 +1,7 @@
 -- Lists on which the claims say something: all that is assumed holds, samples are delivered, and each came from its request.
-use mathlib.Core.Path.{_≡_, refl, ap}
-use mathlib.Core.Bool.{true, false, false≢true}
+use mathlib.Core.Path.{refl}
 use mathlib.Core.List.{List, [], _∷_, _++_}
-use mathlib.Core.Option.{Option, none, some}
+use mathlib.Core.Option.{none, some}
 use lib.ListN.{replicate}
 use Rattle.base.specs.BigEndian.{numberAt, bytesOf}
 use Rattle.blheli_telemetry.specs.Crc.{crcBit, crcBits, crcByte, crcFrom, crcOf}
@@ -10,8 +9,6 @@ use Rattle.blheli_telemetry.specs.Frame.{telemetryOf, payloadOf}
 use Rattle.base.specs.Due.{due}
 use Rattle.esc_records.specs.Record.{recordOf, readRecord}
 use Rattle.esc_records.specs.Answer.{requestBytes, sampleBytes, deliveredBytes, failureBytes, idleBytes, nextBytes, ackBytes, wireBytes, timeoutBytes, bodyBytes, answerBytes}
-use Rattle.esc_feedback.specs.declared.request.EscTelemetryUpdate.{EscTelemetryUpdate}
-use Rattle.base.specs.Maybe.{is}
 use Rattle.booking.specs.History.{since}
 use Rattle.booking.specs.Wire.{wire, latest, frameAt}
 use Rattle.booking.specs.Booking.{openRequest, startedAt, latestFrame, newlyStarted, startedRequest}
@@ -19,15 +16,16 @@ use Rattle.booking.specs.Faults.{faulted, quietSince, retries, expired, recover
 use Rattle.booking.specs.Turns.{turn, lastQueued, existing}
 use Rattle.booking.specs.IdleRule.{check, verdict, run, judged}
 use Rattle.booking.specs.Rule.{ruleFor}
-use Rattle.attribution.specs.Marks.{Marked, Entry, Log, logOf, logAfter, sinceIn}
+use Rattle.attribution.specs.Marks.{Marked, logOf, logAfter, sinceIn}
 use Rattle.attribution.specs.Origin.{requests, sentBy, atRecovery, atOpening}
 use Rattle.attribution.specs.Wiring.{always, noFault, Wiring}
-use Rattle.attribution.specs.Times.{clockAt, heardAt, Timing}
+use Rattle.attribution.specs.Clock.{latestT}
+use Rattle.attribution.specs.Times.{heardAt, Timing}
 use Rattle.attribution.specs.Cutting.{Cutting}
-use Rattle.attribution.specs.Attributed.{AttributedIf, CameFrom}
-use Rattle.attribution.proofs.ByRule.{traceMarked, marked-by-rule}
-use Rattle.attribution.proofs.Lists.{opening, queue, acknowledge, poll, cut, recover, ask, zeros, e1, e3, Row, row, ruleLog}
-use Rattle.attribution.proofs.Refuted.{deliversIn}
+use Rattle.attribution.specs.Attributed.{CameFrom}
+use Rattle.attribution.proofs.ByRule.{traceMarked}
+use Rattle.attribution.proofs.Lists.{opening, queue, acknowledge, poll, cut, recover, ask, zeros, e1, e3, Row, row}
+use Rattle.attribution.proofs.Newest.{Newest, newest-by}
 use Rattle.attribution.proofs.Attributed.{attributed}
 use Rattle.attribution.proofs.ByTimes.{attributed-by-times}
 use Rattle.attribution.proofs.ByCuts.{attributed-by-cuts}
@@ -51,43 +49,30 @@ noisy =
     opening 0 ∷ zeros 7 none 1 ++ (cut ∷ ask 0 0 2 ++ (zeros 10 (some 0) 3
     ++ (zeros 1 (some 0) 4 ++ (zeros 3 none 4 ++ (cut ∷ ask 1 1 5 ++ zeros 10 (some 1) 6)))))
 
--- the newest accepted record delivers a sample, and it came from its request
-pub record Shown (ms : List Marked) : Type 0 where
-  pub entry : Entry
-  pub before : Log
-  pub sample : EscTelemetryUpdate
-  pub newest : logAfter ms ≡ entry ∷ before
-  pub delivers : entry .seen .requests .delivered ≡ some sample
-  pub came : CameFrom (entry ∷ before) sample
-
-shown-by : (Assumed : Log → Type 0) → AttributedIf Assumed → (ms : List Marked) → deliversIn (ruleLog ms) ≡ true → Assumed (ruleLog ms) → Shown ms
-shown-by Assumed claim ms = go (ruleLog ms) (ap logOf (marked-by-rule ms))
-  where
-    go : (l : Log) → logAfter ms ≡ l → deliversIn l ≡ true → Assumed l → Shown ms
-    go [] x d a = absurd (false≢true d)
-    go (e ∷ l) x d a = sampled (e .seen .requests .delivered) refl d
-      where
-        sampled : (u : Option EscTelemetryUpdate) → e .seen .requests .delivered ≡ u → is u ≡ true → Shown ms
-        sampled none y z = absurd (false≢true z)
-        sampled (some u) y z = record { entry = e; before = l; sample = u; newest = x; delivers = y; came = claim ms [] e l u x y a }
-
 pub record Live : Type 0 where
   pub flight-comes : Row (logAfter flight) [] [] [] (0 ∷ 2 ∷ 0 ∷ [])
       (replicate 10 (some 0) ++ (replicate 9 (some 1) ++ (replicate 25 none ++ (replicate 10 (some 2) ++ (replicate 10 (some 3) ++ replicate 10 (some 0))))))
-  pub by-wiring : Shown flight
-  pub by-times : Shown flight
-  pub by-cuts : Shown flight
-  pub noisy-comes : Row (logAfter noisy) (e1 ∷ e3 ∷ []) (e1 ∷ e3 ∷ []) [] (0 ∷ 1 ∷ []) (replicate 7 none ++ (replicate 11 (some 0) ++ (replicate 3 none ++ replicate 10 (some 1))))
-  pub noisy-by-cuts : Shown noisy
+  pub by-wiring : Newest flight CameFrom
+  pub by-times : Newest flight CameFrom
+  pub by-cuts : Newest flight CameFrom
+  pub noisy-comes : Row (logAfter noisy) (e1 ∷ e3 ∷ []) (e1 ∷ e3 ∷ []) [] (0 ∷ 1 ∷ [])
+      (replicate 7 none ++ (replicate 11 (some 0) ++ (replicate 3 none ++ replicate 10 (some 1))))
+  pub noisy-by-cuts : Newest noisy CameFrom
 
 pub live : Live
-unfolding numberAt bytesOf crcBit crcBits crcByte crcFrom crcOf telemetryOf payloadOf due recordOf readRecord requestBytes sampleBytes deliveredBytes failureBytes idleBytes nextBytes ackBytes wireBytes timeoutBytes bodyBytes answerBytes since wire latest frameAt openRequest startedAt latestFrame newlyStarted startedRequest faulted quietSince retries expired recovers note turn lastQueued existing check verdict run judged ruleFor traceMarked logOf sinceIn requests sentBy atRecovery atOpening always clockAt heardAt
+unfolding numberAt bytesOf crcBit crcBits crcByte crcFrom crcOf telemetryOf payloadOf due recordOf readRecord requestBytes sampleBytes deliveredBytes failureBytes idleBytes nextBytes ackBytes wireBytes timeoutBytes bodyBytes answerBytes since wire latest frameAt openRequest startedAt latestFrame newlyStarted startedRequest faulted quietSince retries expired recovers note turn lastQueued existing check verdict run judged ruleFor traceMarked logOf sinceIn requests sentBy atRecovery atOpening always latestT heardAt
 live =
     record {
       flight-comes = row flight;
-      by-wiring = shown-by (Wiring noFault) attributed flight refl (record { e1 = refl; e2 = refl; e3 = refl; e4 = refl; e5 = refl });
-      by-times = shown-by Timing attributed-by-times flight refl (record { e1 = refl; e2 = refl; e3 = refl; clock = refl; answer = refl; reopening = refl });
-      by-cuts = shown-by Cutting attributed-by-cuts flight refl (record { wiring = record { e1 = refl; e2 = refl; e3 = refl; e4 = refl; e5 = refl }; cuts = refl });
+      by-wiring = newest-by flight CameFrom (Wiring noFault) (attributed flight) refl (record { e1 = refl; e2 = refl; e3 = refl; e4 = refl; e5 = refl });
+      by-times =
+          newest-by flight CameFrom Timing (attributed-by-times flight) refl
+          (record { e1 = refl; e2 = refl; e3 = refl; clock = refl; answer = refl; reopening = refl });
+      by-cuts =
+          newest-by flight CameFrom Cutting (attributed-by-cuts flight) refl
+          (record { wiring = record { e1 = refl; e2 = refl; e3 = refl; e4 = refl; e5 = refl }; cuts = refl });
       noisy-comes = row noisy;
-      noisy-by-cuts = shown-by Cutting attributed-by-cuts noisy refl (record { wiring = record { e1 = refl; e2 = refl; e3 = refl; e4 = refl; e5 = refl }; cuts = refl });
+      noisy-by-cuts =
+          newest-by noisy CameFrom Cutting (attributed-by-cuts noisy) refl
+          (record { wiring = record { e1 = refl; e2 = refl; e3 = refl; e4 = refl; e5 = refl }; cuts = refl });
     }

@@ -20,10 +20,13 @@ use Rattle.booking.specs.Rule.{ruleFor}
 use Rattle.attribution.specs.Marks.{Marked, logOf, logAfter, sinceIn}
 use Rattle.attribution.specs.Origin.{requests, sentBy, atRecovery, atOpening}
 use Rattle.attribution.specs.Wiring.{always}
-use Rattle.attribution.specs.Times.{clockAt, heardAt}
+use Rattle.attribution.specs.Clock.{latestT}
+use Rattle.attribution.specs.Times.{heardAt}
+use Rattle.attribution.specs.Attributed.{CameFrom}
 use Rattle.attribution.proofs.ByRule.{traceMarked}
 use Rattle.attribution.proofs.Lists.{openingWith, opening, queue, acknowledge, poll, cut, recover, ask, zeros, e1, e2, e3, e4, e5, clock, answer, reopening, cutting, Row, row}
-use Rattle.attribution.proofs.Refuted.{Refuted, refuted-by}
+use Rattle.attribution.proofs.Newest.{Refuted}
+use Rattle.attribution.proofs.Refuted.{not-from}
 
 -- E1: noise makes a frame
 abbrev pub noise : List Marked
@@ -64,44 +67,44 @@ reopened = opening 0 ∷ ask 0 0 1 ++ (zeros 10 (some 0) 2 ++ (cut ∷ ask 1 1 3
 
 pub record Needed : Type 0 where
   pub noise-comes : Row (logAfter noise) (e1 ∷ []) (e1 ∷ []) (e1 ∷ []) (0 ∷ []) (replicate 10 none)
-  pub noise-wrong : Refuted noise
+  pub noise-wrong : Refuted CameFrom noise
   pub shifted-comes : Row (logAfter shifted) (e1 ∷ []) (e1 ∷ []) (cutting ∷ []) (0 ∷ 1 ∷ []) (none ∷ replicate 10 (some 0) ++ replicate 9 (some 1))
-  pub shifted-wrong : Refuted shifted
+  pub shifted-wrong : Refuted CameFrom shifted
   pub early-comes : Row (logAfter (early ++ (cut ∷ ask 1 1 3))) (e2 ∷ []) (e2 ∷ []) (e2 ∷ []) (0 ∷ []) (replicate 10 (some 1))
-  pub early-wrong : Refuted early
+  pub early-wrong : Refuted CameFrom early
   pub twice-comes : Row (logAfter twice) (e3 ∷ []) (e3 ∷ []) (e3 ∷ []) (0 ∷ 1 ∷ []) (replicate 20 (some 0))
-  pub twice-wrong : Refuted twice
+  pub twice-wrong : Refuted CameFrom twice
   pub eleventh-comes : Row (logAfter eleventh) (e3 ∷ []) (e3 ∷ []) (e3 ∷ cutting ∷ []) (0 ∷ 1 ∷ []) (replicate 11 (some 0) ++ replicate 9 (some 1))
-  pub eleventh-wrong : Refuted eleventh
+  pub eleventh-wrong : Refuted CameFrom eleventh
   pub late-comes : Row (logAfter late) (e4 ∷ []) (answer ∷ []) (e4 ∷ []) (1 ∷ []) (replicate 10 (some 0))
-  pub late-wrong : Refuted late
+  pub late-wrong : Refuted CameFrom late
   pub punctual-comes : Row (logAfter punctual) (e4 ∷ []) (answer ∷ []) (e4 ∷ []) (1 ∷ []) (replicate 10 (some 0))
-  pub punctual-wrong : Refuted punctual
+  pub punctual-wrong : Refuted CameFrom punctual
   pub back-comes : Row (logAfter back) (e4 ∷ []) (clock ∷ []) (e4 ∷ []) (1 ∷ []) (replicate 10 (some 0))
-  pub back-wrong : Refuted back
+  pub back-wrong : Refuted CameFrom back
   pub reopened-comes : Row (logAfter reopened) (e5 ∷ []) (reopening ∷ []) (e5 ∷ []) (0 ∷ 0 ∷ []) (replicate 10 (some 0) ++ replicate 10 (some 1))
-  pub reopened-wrong : Refuted reopened
+  pub reopened-wrong : Refuted CameFrom reopened
 
 pub needed : Needed
-unfolding numberAt bytesOf crcBit crcBits crcByte crcFrom crcOf telemetryOf payloadOf due recordOf readRecord requestBytes sampleBytes deliveredBytes failureBytes idleBytes nextBytes ackBytes wireBytes timeoutBytes bodyBytes answerBytes since wire latest frameAt openRequest startedAt latestFrame newlyStarted startedRequest faulted quietSince retries expired recovers note turn lastQueued existing check verdict run judged ruleFor traceMarked logOf sinceIn requests sentBy atRecovery atOpening always clockAt heardAt
+unfolding numberAt bytesOf crcBit crcBits crcByte crcFrom crcOf telemetryOf payloadOf due recordOf readRecord requestBytes sampleBytes deliveredBytes failureBytes idleBytes nextBytes ackBytes wireBytes timeoutBytes bodyBytes answerBytes since wire latest frameAt openRequest startedAt latestFrame newlyStarted startedRequest faulted quietSince retries expired recovers note turn lastQueued existing check verdict run judged ruleFor traceMarked logOf sinceIn requests sentBy atRecovery atOpening always latestT heardAt
 needed =
     record {
       noise-comes = row noise;
-      noise-wrong = refuted-by noise refl refl;
+      noise-wrong = not-from noise refl refl;
       shifted-comes = row shifted;
-      shifted-wrong = refuted-by shifted refl refl;
+      shifted-wrong = not-from shifted refl refl;
       early-comes = row (early ++ (cut ∷ ask 1 1 3));
-      early-wrong = refuted-by early refl refl;
+      early-wrong = not-from early refl refl;
       twice-comes = row twice;
-      twice-wrong = refuted-by twice refl refl;
+      twice-wrong = not-from twice refl refl;
       eleventh-comes = row eleventh;
-      eleventh-wrong = refuted-by eleventh refl refl;
+      eleventh-wrong = not-from eleventh refl refl;
       late-comes = row late;
-      late-wrong = refuted-by late refl refl;
+      late-wrong = not-from late refl refl;
       punctual-comes = row punctual;
-      punctual-wrong = refuted-by punctual refl refl;
+      punctual-wrong = not-from punctual refl refl;
       back-comes = row back;
-      back-wrong = refuted-by back refl refl;
+      back-wrong = not-from back refl refl;
       reopened-comes = row reopened;
-      reopened-wrong = refuted-by reopened refl refl;
+      reopened-wrong = not-from reopened refl refl;
     }

@@ -13,8 +13,8 @@ use Rattle.base.specs.Maybe.{is}
 use Rattle.booking.specs.History.{Byte}
 use Rattle.attribution.specs.Marks.{Entry, Log}
 use Rattle.attribution.specs.Origin.{requests, addByte, sentBy, atRecovery, atOpening}
-use Rattle.attribution.specs.Wiring.{Scope, always, ofOrigin, noNoise, askedFirst, oneFrame, quietRecovery, quietOpening, Wiring}
-use Rattle.attribution.proofs.Both.{and-left, and-right}
+use Rattle.attribution.specs.Wiring.{Scope, ofOrigin, noNoise, askedFirst, oneFrame, quietRecovery, quietOpening, Wiring}
+use Rattle.attribution.proofs.Always.{now, before}
 
 -- the requests numbered below n have nothing left to send
 abbrev pub Spent : Log → ℕ → Type 0
@@ -61,25 +61,23 @@ none-left l o m s =
 
 module _ (scope : Scope) (l : Log) (e : Entry) (w : Wiring scope (e ∷ l)) where
   pub wiring-before : Wiring scope l
-  unfolding always
   wiring-before =
       record {
-        e1 = and-right (noNoise scope l e) _ (w .e1);
-        e2 = and-right (askedFirst scope l e) _ (w .e2);
-        e3 = and-right (oneFrame scope l e) _ (w .e3);
-        e4 = and-right (quietRecovery scope l e) _ (w .e4);
-        e5 = and-right (quietOpening scope l e) _ (w .e5);
+        e1 = before (noNoise scope) l e (w .e1);
+        e2 = before (askedFirst scope) l e (w .e2);
+        e3 = before (oneFrame scope) l e (w .e3);
+        e4 = before (quietRecovery scope) l e (w .e4);
+        e5 = before (quietOpening scope) l e (w .e5);
       }
 
   pub origin : (b : Byte) → e .seen .wire .byte ≡ some b → scope l ≡ true → Origin l (e .origin)
-  unfolding always
   origin b x s =
       go (e .origin) refl
-      (rw (x, s) at (and-left (noNoise scope l e) _ (w .e1)))
-      (rw (x, s) at (and-left (askedFirst scope l e) _ (w .e2)))
-      (rw (x, s) at (and-left (oneFrame scope l e) _ (w .e3)))
-      (rw (x, s) at (and-left (quietRecovery scope l e) _ (w .e4)))
-      (rw (x, s) at (and-left (quietOpening scope l e) _ (w .e5)))
+      (rw (x, s) at (now (noNoise scope) l e (w .e1)))
+      (rw (x, s) at (now (askedFirst scope) l e (w .e2)))
+      (rw (x, s) at (now (oneFrame scope) l e (w .e3)))
+      (rw (x, s) at (now (quietRecovery scope) l e (w .e4)))
+      (rw (x, s) at (now (quietOpening scope) l e (w .e5)))
     where
       go : (o : Option ℕ) → e .origin ≡ o
           → is o ≡ true

@@ -1,10 +1,10 @@
 -- What one more entry of a log can be: the rule's answer to each kind of record, by what it shows of requests, wire and openings.
-use mathlib.Core.Path.{_≡_, refl, ap}
-use mathlib.Core.List.{_∷_}
+use mathlib.Core.Path.{_≡_, refl}
 use mathlib.Core.Option.{Option, none, some, Option·none-ne-some}
 use mathlib.Core.Bool.{Bool, true, false, not, true≢false}
 use Prim.Native.Nat.{ℕ, _-_, _*_, _^_, _≤_, min}
 use borrow.Author.Tests.{leb-true}
+use Rattle.base.specs.Due.{due}
 use Rattle.esc_feedback.specs.declared.request.EscActuatorRequest.{EscActuatorRequest}
 use Rattle.esc_feedback.specs.declared.request.EscActuatorAck.{EscActuatorAck}
 use Rattle.esc_feedback.specs.declared.request.EscTelemetryUpdate.{EscTelemetryUpdate}
@@ -15,14 +15,12 @@ use Rattle.esc_records.specs.declared.record.Record.{Record}
 use Rattle.esc_records.specs.declared.record.Record.the-variants as kind
 use Rattle.esc_records.specs.declared.answer.IdleAnswer.{IdleAnswer}
 use Rattle.esc_records.specs.declared.answer.Answer.the-variants as answer
-use Rattle.booking.specs.History.{Opening, Timed, Byte, Seen, Past, Since, seen}
+use Rattle.booking.specs.History.{Opening, Timed, Byte, Seen, Past, seen}
 use Rattle.booking.specs.Wire.{Frame, wire, frameAt, timed}
 use Rattle.booking.specs.Booking.{bookedTo, openRequest, latestFrame, newlyStarted, startedRequest}
 use Rattle.booking.specs.Faults.{faulted, quietSince, retries, expired, recovers}
-use Rattle.booking.specs.Turns.{existing, names}
-use Rattle.booking.specs.Claims.{pastOf}
+use Rattle.booking.specs.Turns.{lastQueued, dueSince, existing, names}
 use Rattle.booking.specs.Rule.{ackAnswer, wireAnswerOf, answerTo}
-use Rattle.attribution.specs.Marks.{Entry, Log, sinceIn, past}
 use Rattle.attribution.proofs.Both.{and-left, and-right}
 
 -- all of an entry that attribution reads, but a cut and the time
@@ -34,13 +32,28 @@ pub record Shows (e : Seen) (g : Option Timed) (b : Option Byte) (d : Option Esc
   pub timeout : e .requests .timeout ≡ t
   pub recovered : e .requests .recovered ≡ r
 
+-- no grant, timeout or recovery, whatever its byte and its sample
+abbrev pub Passes : Seen → Type 0
+Passes e = Shows e none (e .wire .byte) (e .requests .delivered) none false
+
+pub passing : (e : Seen) {b : Option Byte} {d : Option EscTelemetryUpdate} → Shows e none b d none false → Passes e
+passing e s = record { opening = s .opening; granted = s .granted; byte = refl; delivered = refl; timeout = s .timeout; recovered = s .recovered }
+
+-- a request exists: none is open, no fault stands, and the boot delay and the period are due
+pub record Free (o : Opening) (h : Past) (now : ℕ) : Type 0 where
+  pub unasked : openRequest h ≡ none
+  pub calm : faulted h ≡ false
+  pub booted : due (o .boot) now (o .config .«boot_delay_ms») ≡ true
+  pub paced : dueSince (lastQueued h) now (o .config .«request_period_ms») ≡ true
+
 pub data Step (o : Opening) (h : Past) (e : Seen) : Type 0 where
   -- nothing of these
   plain : Shows e none none none none false → Step o h e
-  -- a 02 answered yes: none was open and no fault stood
-  grants : (q : EscActuatorRequest) → openRequest h ≡ none → faulted h ≡ false → Shows e (some (record { request = q; at = e .now })) none none none false → Step o h e
+  -- a 02 answered yes
+  grants : (q : EscActuatorRequest) → Free o h (e .now) → Shows e (some (record { request = q; at = e .now })) none none none false → Step o h e
   -- a 05
-  takes : (b : ℕ) → e .requests .acknowledged ≡ none → Shows e none (some (record { value = b; at = e .now })) (bookedTo (startedRequest h) (timed (frameAt (wire h) b) (e .now))) none false → Step o h e
+  takes : (b : ℕ) → e .requests .acknowledged ≡ none
+      → Shows e none (some (record { value = b; at = e .now })) (bookedTo (startedRequest h) (timed (frameAt (wire h) b) (e .now))) none false → Step o h e
   -- a 03
   answers : (q : EscActuatorRequest) → Shows e none none (bookedTo (newlyStarted h q) (latestFrame h)) none false → Step o h e
   -- a 04 answered with a timeout
@@ -53,19 +66,18 @@ shows : (e : Seen) → e .opening ≡ none → Shows e (e .requests .granted) (e
 shows e o = record { opening = o; granted = refl; byte = refl; delivered = refl; timeout = refl; recovered = refl }
 
 module _ (o : Opening) (h : Past) where
-  -- a request exists only where none is open and no fault stands
-  record Free : Type 0 where
-    unasked : openRequest h ≡ none
-    calm : faulted h ≡ false
-
-  existing-free : (now : ℕ) (q : EscActuatorRequest) → existing o h now ≡ some q → Free
+  existing-free : (now : ℕ) (q : EscActuatorRequest) → existing o h now ≡ some q → Free o h now
   unfolding existing
-  existing-free now q e = go (faulted h) refl (openRequest h) refl
+  existing-free now q e = go (faulted h) refl (openRequest h) refl (due (o .boot) now _) refl (dueSince (lastQueued h) now _) refl
     where
-      go : (f : Bool) → faulted h ≡ f → (x : Option Timed) → openRequest h ≡ x → Free
-      go false f none x = record { unasked = x; calm = f }
-      go true f x y = absurd (Option·none-ne-some q (rw f at e))
-      go false f (some p) y = absurd (Option·none-ne-some q (rw (f, y) at e))
+      go : (f : Bool) → faulted h ≡ f → (x : Option Timed) → openRequest h ≡ x
+          → (b : Bool) → due (o .boot) now (o .config .«boot_delay_ms») ≡ b → (p : Bool) → dueSince (lastQueued h) now (o .config .«request_period_ms») ≡ p
+          → Free o h now
+      go false f none x true b true p = record { unasked = x; calm = f; booted = b; paced = p }
+      go true f x y b z p w = absurd (Option·none-ne-some q (rw f at e))
+      go false f (some r) y b z p w = absurd (Option·none-ne-some q (rw (f, y) at e))
+      go false f none y false z p w = absurd (Option·none-ne-some q (rw (f, y, z) at e))
+      go false f none y true z false w = absurd (Option·none-ne-some q (rw (f, y, z, w) at e))
 
   mark-step : (q : EscActuatorRequest) (now : ℕ) → Step o h (seen (kind.MarkRequestQueued q now) (answer.Decided (names (existing o h now) q)))
   mark-step q now = go (existing o h now) refl
@@ -74,18 +86,16 @@ module _ (o : Opening) (h : Past) where
       go none e = plain (shows _ refl)
       go (some p) e = named (names (some p) q)
         where
-          free : Free
-          free = existing-free now p e
-
           named : (y : Bool) → Step o h (seen (kind.MarkRequestQueued q now) (answer.Decided y))
-          named true = grants q (free .unasked) (free .calm) (shows _ refl)
+          named true = grants q (existing-free now p e) (shows _ refl)
           named false = plain (shows _ refl)
 
   ack-step : (k : EscActuatorAck) (now : ℕ) (says : EscTelemetryUpdate → IdleAnswer)
       → Step o h (seen (kind.ActuatorAck k now) (answer.Ack (ackAnswer (newlyStarted h (k .request)) (latestFrame h) says)))
   ack-step k now says = answers (k .request) (go (newlyStarted h (k .request)) (latestFrame h))
     where
-      go : (x : Option EscActuatorRequest) (f : Option Frame) → Shows (seen (kind.ActuatorAck k now) (answer.Ack (ackAnswer x f says))) none none (bookedTo x f) none false
+      go : (x : Option EscActuatorRequest) (f : Option Frame)
+          → Shows (seen (kind.ActuatorAck k now) (answer.Ack (ackAnswer x f says))) none none (bookedTo x f) none false
       go none f = shows _ refl
       go (some q) none = shows _ refl
       go (some q) (some f) = shows _ refl
@@ -94,7 +104,8 @@ module _ (o : Opening) (h : Past) where
       → Step o h (seen (kind.WireByte b now) (answer.Wire (wireAnswerOf (bookedTo (startedRequest h) (timed (frameAt (wire h) b) now)) says)))
   byte-step b now says = takes b refl (go (bookedTo (startedRequest h) (timed (frameAt (wire h) b) now)))
     where
-      go : (u : Option EscTelemetryUpdate) → Shows (seen (kind.WireByte b now) (answer.Wire (wireAnswerOf u says))) none (some (record { value = b; at = now })) u none false
+      go : (u : Option EscTelemetryUpdate)
+          → Shows (seen (kind.WireByte b now) (answer.Wire (wireAnswerOf u says))) none (some (record { value = b; at = now })) u none false
       go none = shows _ refl
       go (some u) = shows _ refl
 
@@ -129,24 +140,3 @@ module _ (o : Opening) (h : Past) where
   step kind.Report f = plain (shows _ refl)
   step (kind.StoredSample n) f = plain (shows _ refl)
   step (kind.Figures n) f = plain (shows _ refl)
-
--- the entry of a record that is no 00, and what has come since the opening with it
-abbrev pub entryOf : Since → Record → Option ℕ → Entry
-entryOf s r o = record { seen = seen r (answerTo (s .opening) (s .past) r); origin = o }
-
-step-opening : (o : Opening) (h : Past) (e : Seen) → Step o h e → e .opening ≡ none
-step-opening o h e (plain s) = s .opening
-step-opening o h e (grants q n f s) = s .opening
-step-opening o h e (takes b a s) = s .opening
-step-opening o h e (answers q s) = s .opening
-step-opening o h e (ends t s) = s .opening
-step-opening o h e (restarts c f w s) = s .opening
-
-pub since-more : (l : Log) (s : Since) (r : Record) (o : Option ℕ) → sinceIn l ≡ some s → opens r ≡ false
-    → sinceIn (entryOf s r o ∷ l) ≡ some (record { opening = s .opening; past = entryOf s r o .seen ∷ s .past })
-unfolding sinceIn
-since-more l s r o x f = rw (x, step-opening (s .opening) (s .past) (entryOf s r o .seen) (step (s .opening) (s .past) r f))
-
-pub past-more : (l : Log) (s : Since) (r : Record) (o : Option ℕ) → sinceIn l ≡ some s → opens r ≡ false
-    → past (entryOf s r o ∷ l) ≡ entryOf s r o .seen ∷ s .past
-past-more l s r o x f = ap pastOf (since-more l s r o x f)

@@ -1,6 +1,6 @@
 -- The unit's quiet rule. While faulted, the quiet start is no earlier than any request or byte; a recovery comes the quiet time after it,
 -- a new opening too. So of a request before them nothing was heard for the quiet time, and no answer within it is still to come.
-use mathlib.Core.Path.{_≡_, refl, sym, _∙_, subst}
+use mathlib.Core.Path.{_≡_, refl, sym, _∙_}
 use mathlib.Core.List.{[], _∷_}
 use mathlib.Core.Option.{Option, none, some}
 use mathlib.Core.Bool.{Bool, true, false, _||_, true≢false, false≢true}
@@ -15,20 +15,18 @@ use Rattle.esc_feedback.specs.declared.config.EscManagerConfig.{EscManagerConfi
 use Rattle.esc_feedback.specs.declared.answer.EscManagerTimeout.{EscManagerTimeout}
 use Rattle.esc_feedback.specs.declared.request.EscActuatorRequest.{EscActuatorRequest}
 use Rattle.esc_feedback.specs.declared.request.EscTelemetryUpdate.{EscTelemetryUpdate}
-use Rattle.esc_unit.specs.Unit.{opens}
-use Rattle.esc_records.specs.declared.record.Record.{Record}
-use Rattle.esc_records.specs.declared.record.Record.the-variants as kind
-use Rattle.esc_records.specs.declared.answer.Answer.the-variants as answer
-use Rattle.booking.specs.History.{Opening, Byte, Past, Since, seen}
+use Rattle.booking.specs.History.{Opening, Byte, Past, Since}
 use Rattle.booking.specs.Faults.{faulted, quietSince, retries}
 use Rattle.booking.specs.Claims.{pastOf}
 use Rattle.attribution.specs.Marks.{Entry, Log, sinceIn, past}
 use Rattle.attribution.specs.Origin.{requests, atRecovery, atOpening}
 use Rattle.attribution.specs.Wiring.{always}
+use Rattle.attribution.specs.Clock.{latestT}
 use Rattle.attribution.specs.Times.{stamped, clockAt, byteAt, heardAt, quietTime, quietOf, steadyClock, prompt, waitsFor, patientOpening}
-use Rattle.attribution.proofs.Both.{and-left, and-right}
-use Rattle.attribution.proofs.LawfulLog.{Lawful, start, opened, more}
-use Rattle.attribution.proofs.Steps.{Shows, Step, plain, grants, takes, answers, ends, restarts, step, entryOf, since-more}
+use Rattle.attribution.proofs.Always.{now, before}
+use Rattle.attribution.proofs.LawfulLog.{Lawful}
+use Rattle.attribution.proofs.Steps.{Shows, Step, plain, grants, takes, answers, ends, restarts}
+use Rattle.attribution.proofs.Along.{openingOf, along}
 use Rattle.attribution.proofs.Heard.{earlier, clock-grows, clock-now, stamped-grant, stamped-byte, stamped-timeout, stamped-recovery, earlier-keeps, heard-keeps, heard-grant, heard-byte, fault-keeps, quiet-grows}
 use Rattle.attribution.proofs.Spent.{requests-keep}
 
@@ -52,7 +50,8 @@ module _ (l : Log) (h : Past) (quiet now : ℕ) (i : Timely l h quiet) (f : faul
 
 module _ (o : Opening) (l : Log) (h : Past) (e : Entry) (i : Timely l h (o .config .«recovery_quiet_ms»))
     (clock : stamped (e .seen) ≡ true → clockAt l ≤ e .seen .now)
-    (prompts : (b : Byte) → e .seen .wire .byte ≡ some b → faulted h ≡ false → (k : ℕ) → e .origin ≡ some k → e .seen .now < heardAt k l + o .config .«recovery_quiet_ms») where
+    (prompts : (b : Byte) → e .seen .wire .byte ≡ some b → faulted h ≡ false
+    → (k : ℕ) → e .origin ≡ some k → e .seen .now < heardAt k l + o .config .«recovery_quiet_ms») where
   abbrev quiet : ℕ
   quiet = o .config .«recovery_quiet_ms»
 
@@ -73,7 +72,8 @@ module _ (o : Opening) (l : Log) (h : Past) (e : Entry) (i : Timely l h (o .conf
       still = fault-keeps h (e .seen) (s .timeout) (s .recovered)
 
   -- a grant is not of an earlier request
-  grant-timely : (q : EscActuatorRequest) → faulted h ≡ false → Shows (e .seen) (some (record { request = q; at = e .seen .now })) none none none false → Timely (e ∷ l) (e .seen ∷ h) quiet
+  grant-timely : (q : EscActuatorRequest) → faulted h ≡ false
+      → Shows (e .seen) (some (record { request = q; at = e .seen .now })) none none none false → Timely (e ∷ l) (e .seen ∷ h) quiet
   unfolding requests
   grant-timely q f s =
       record {
@@ -99,7 +99,8 @@ module _ (o : Opening) (l : Log) (h : Past) (e : Entry) (i : Timely l h (o .conf
           rw (now-heard k, z) (omega (arith, i .rested f k y, clock-grows l e))
 
   -- a byte moves the quiet start while faulted, and else is not of an earlier request
-  byte-timely : (b : ℕ) (d : Option EscTelemetryUpdate) → e .seen .requests .acknowledged ≡ none → Shows (e .seen) none (some (record { value = b; at = e .seen .now })) d none false → Timely (e ∷ l) (e .seen ∷ h) quiet
+  byte-timely : (b : ℕ) (d : Option EscTelemetryUpdate) → e .seen .requests .acknowledged ≡ none
+      → Shows (e .seen) none (some (record { value = b; at = e .seen .now })) d none false → Timely (e ∷ l) (e .seen ∷ h) quiet
   unfolding quietSince
   byte-timely b d a s =
       record {
@@ -168,7 +169,8 @@ module _ (o : Opening) (l : Log) (h : Past) (e : Entry) (i : Timely l h (o .conf
       begins = rw (s .timeout)
 
   -- a recovery comes the quiet time after all that was heard
-  recovery-timely : faulted h ≡ true → quiet * 2 ^ min (retries h) 3 ≤ e .seen .now - quietSince h → Shows (e .seen) none none none none true → Timely (e ∷ l) (e .seen ∷ h) quiet
+  recovery-timely : faulted h ≡ true → quiet * 2 ^ min (retries h) 3 ≤ e .seen .now - quietSince h → Shows (e .seen) none none none none true
+      → Timely (e ∷ l) (e .seen ∷ h) quiet
   unfolding faulted atRecovery atOpening
   recovery-timely f w s =
       record {
@@ -196,7 +198,7 @@ module _ (o : Opening) (l : Log) (h : Past) (e : Entry) (i : Timely l h (o .conf
 
   timely-step : Step o h (e .seen) → Timely (e ∷ l) (e .seen ∷ h) quiet
   timely-step (plain s) = same-timely none s
-  timely-step (grants q n f s) = grant-timely q f s
+  timely-step (grants q f s) = grant-timely q (f .calm) s
   timely-step (takes b a s) = byte-timely b _ a s
   timely-step (answers q s) = same-timely _ s
   timely-step (ends t s) = timeout-timely t s
@@ -208,8 +210,8 @@ TimelySince l s = Timely l (pastOf s) (quietOf s)
 -- an opening comes the quiet time after all that was heard, unless nothing was asked
 timely-new : (l : Log) (s : Option Since) → TimelySince l s → (c : EscManagerConfig) (t : ℕ) (o : Option ℕ)
     → waitsFor l (some (record { config = c; boot = t })) ≡ true
-    → Timely (record { seen = seen (kind.Open c t) answer.Done; origin = o } ∷ l) [] (c .«recovery_quiet_ms»)
-unfolding faulted requests atRecovery atOpening heardAt clockAt
+    → Timely (openingOf c t o ∷ l) [] (c .«recovery_quiet_ms»)
+unfolding faulted requests atRecovery atOpening heardAt latestT
 timely-new l s i c t o w =
     record {
       granted = omega (arith, i .granted);
@@ -231,40 +233,30 @@ pub record Times (l : Log) : Type 0 where
 
 module _ (l : Log) (e : Entry) (t : Times (e ∷ l)) where
   pub times-before : Times l
-  unfolding always
   times-before =
       record {
-        clock = and-right (steadyClock l e) _ (t .clock);
-        prompts = and-right (prompt l e) _ (t .prompts);
-        reopening = and-right (patientOpening l e) _ (t .reopening);
+        clock = before steadyClock l e (t .clock);
+        prompts = before prompt l e (t .prompts);
+        reopening = before patientOpening l e (t .reopening);
       }
 
   pub clock-holds : stamped (e .seen) ≡ true → clockAt l ≤ e .seen .now
-  unfolding always
-  clock-holds m = leb-true _ _ (rw m at (and-left (steadyClock l e) _ (t .clock)))
+  clock-holds m = leb-true _ _ (rw m at (now steadyClock l e (t .clock)))
 
-  pub answer-now : (b : Byte) → e .seen .wire .byte ≡ some b → faulted (past l) ≡ false → (k : ℕ) → e .origin ≡ some k → e .seen .now < heardAt k l + quietTime l
-  unfolding always
-  answer-now b x f k o = ltb-true _ _ (rw (x, f, o) at (and-left (prompt l e) _ (t .prompts)))
+  pub answer-now : (b : Byte) → e .seen .wire .byte ≡ some b → faulted (past l) ≡ false
+      → (k : ℕ) → e .origin ≡ some k → e .seen .now < heardAt k l + quietTime l
+  answer-now b x f k o = ltb-true _ _ (rw (x, f, o) at (now prompt l e (t .prompts)))
 
   wait-now : waitsFor l (e .seen .opening) ≡ true
-  unfolding always
-  wait-now = and-left (patientOpening l e) (always patientOpening l) (t .reopening)
+  wait-now = now patientOpening l e (t .reopening)
 
 timely-start : Timely [] [] 0
-unfolding faulted requests atRecovery atOpening heardAt clockAt
+unfolding faulted requests atRecovery atOpening heardAt latestT
 timely-start = record { granted = omega arith; heard = λ k. omega arith; waits = λ x. absurd (false≢true x); rested = λ f k x. absurd (omega arith) }
 
-timely-more : (l : Log) (s : Since) (r : Record) (o : Option ℕ) → sinceIn l ≡ some s → opens r ≡ false → TimelySince l (sinceIn l) → Times (entryOf s r o ∷ l)
-    → TimelySince (entryOf s r o ∷ l) (sinceIn (entryOf s r o ∷ l))
-timely-more l s r o x f i t =
-    subst (TimelySince (entryOf s r o ∷ l)) (sym (since-more l s r o x f))
-    (timely-step (s .opening) l (s .past) (entryOf s r o) (subst (TimelySince l) x i) (clock-holds l (entryOf s r o) t)
-    (λ b y z k w. rw x at (answer-now l (entryOf s r o) t b y (rw x z) k w))
-    (step (s .opening) (s .past) r f))
-
 pub timely : (l : Log) → Lawful l → Times l → TimelySince l (sinceIn l)
-unfolding sinceIn
-timely [] start t = timely-start
-timely (e ∷ l) (opened c b o i) t = timely-new l (sinceIn l) (timely l i (times-before l e t)) c b o (wait-now l e t)
-timely (e ∷ l) (more s r o x f i) t = timely-more l s r o x f (timely l i (times-before l e t)) t
+timely =
+    along (λ l s. Times l → TimelySince l s) (λ t. timely-start)
+    (λ l c b o i t. timely-new l (sinceIn l) (i (times-before l (openingOf c b o) t)) c b o (wait-now l (openingOf c b o) t))
+    (λ l s e k x st i t.
+    timely-step (s .opening) l (s .past) e (i (times-before l e t)) (clock-holds l e t) (λ b y z j w. rw x at (answer-now l e t b y (rw x z) j w)) st)

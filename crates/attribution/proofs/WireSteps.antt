@@ -1,13 +1,12 @@
 -- What one entry more makes of the wire and of the latest frame: a byte is added, or a cut, or nothing.
 use mathlib.Core.Path.{_≡_, refl, sym, _∙_, ap}
 use mathlib.Core.List.{List, _∷_}
-use mathlib.Core.Option.{Option, none, some, Option·none-ne-some}
+use mathlib.Core.Option.{none, some, Option·none-ne-some}
 use mathlib.Core.Bool.{Bool, true, false}
 use Prim.Native.Nat.{ℕ, zero, suc}
 use Rattle.base.specs.Choice.{pick}
-use Rattle.base.specs.Maybe.{orElse}
-use Rattle.booking.specs.History.{Byte, Past}
-use Rattle.booking.specs.Wire.{OnWire, byte, cut, Frame, wire, latest, frameAt, timed}
+use Rattle.booking.specs.History.{Timed, Byte, Past}
+use Rattle.booking.specs.Wire.{OnWire, byte, cut, wire, latest, frameAt}
 use Rattle.booking.specs.Booking.{latestFrame}
 use Rattle.attribution.specs.Marks.{Entry}
 use Rattle.attribution.specs.Origin.{requests}
@@ -33,7 +32,8 @@ clean-keeps h e b i = go (e .seen .wire .cut) refl
     go false x = ap (λ (w : List OnWire). latest w 1) (wire-same h e b false x) ∙ i
 
 -- a frame end gives the latest frame
-pub latest-now : (h : Past) (e : Entry) → e .seen .requests .granted ≡ none → (b : Byte) → e .seen .wire .byte ≡ some b → (f : List ℕ) → frameAt (wire h) (b .value) ≡ some f
+pub latest-now : (h : Past) (e : Entry) → e .seen .requests .granted ≡ none → (b : Byte) → e .seen .wire .byte ≡ some b → (f : List ℕ)
+    → frameAt (wire h) (b .value) ≡ some f
     → latestFrame (e .seen ∷ h) ≡ some (record { bytes = f; at = b .at })
 unfolding latestFrame
 latest-now h e g b x f y = rw (g, x, y)
@@ -42,17 +42,20 @@ pub frame-same : (h : Past) (e : Entry) → e .seen .requests .granted ≡ none 
 unfolding latestFrame
 frame-same h e g b = rw (g, b)
 
-pub frame-more : (h : Past) (e : Entry) → e .seen .requests .granted ≡ none → (b : Byte) → e .seen .wire .byte ≡ some b → latestFrame h ≡ none
-    → latestFrame (e .seen ∷ h) ≡ timed (frameAt (wire h) (b .value)) (b .at)
+-- a grant leaves none
+pub frame-none : (h : Past) (e : Entry) (g : Timed) → e .seen .requests .granted ≡ some g → latestFrame (e .seen ∷ h) ≡ none
 unfolding latestFrame
-frame-more h e g b x y = rw (g, x, y) (go (timed (frameAt (wire h) (b .value)) (b .at)))
-  where
-    go : (f : Option Frame) → orElse f none ≡ f
-    go none = refl
-    go (some f) = refl
+frame-none h e g x = rw x
+
+-- a byte that ends no frame leaves the latest
+pub frame-other : (h : Past) (e : Entry) → e .seen .requests .granted ≡ none → (b : Byte) → e .seen .wire .byte ≡ some b → frameAt (wire h) (b .value) ≡ none
+    → latestFrame (e .seen ∷ h) ≡ latestFrame h
+unfolding latestFrame
+frame-other h e g b x z = rw (g, x, z)
 
 -- a cut takes bytes off the wire, and nothing puts one there
-pub latest-same : (h : Past) (e : Entry) → e .seen .wire .byte ≡ none → (n : ℕ) (bs : List ℕ) → latest (wire (e .seen ∷ h)) n ≡ some bs → latest (wire h) n ≡ some bs
+pub latest-same : (h : Past) (e : Entry) → e .seen .wire .byte ≡ none → (n : ℕ) (bs : List ℕ) → latest (wire (e .seen ∷ h)) n ≡ some bs
+    → latest (wire h) n ≡ some bs
 unfolding latest
 latest-same h e b n bs = go (e .seen .wire .cut) refl n
   where

@@ -2,7 +2,6 @@
 use Prim.Native.Nat.{ℕ}
 use mathlib.Core.Path.{_≡_}
 use mathlib.Core.List.{List, [], _∷_, _++_, map}
-use mathlib.Core.Option.{some}
 use lib.ListN.{length}
 use Rattle.blheli_telemetry.specs.Crc.{crcOf}
 use Rattle.blheli_telemetry.specs.Frame.{telemetryOf}
@@ -10,8 +9,9 @@ use Rattle.esc_feedback.specs.declared.request.EscActuatorRequest.{EscActuatorR
 use Rattle.esc_feedback.specs.declared.request.EscTelemetryUpdate.{EscTelemetryUpdate}
 use Rattle.booking.specs.History.{Byte}
 use Rattle.booking.specs.Run.{run}
-use Rattle.attribution.specs.Marks.{Marked, callsOf, eventsOf, runMarked, Entry, Log, logAfter}
+use Rattle.attribution.specs.Marks.{Marked, callsOf, eventsOf, runMarked, Log}
 use Rattle.attribution.specs.Origin.{requests, sentBy, Taken, taken, sentAs}
+use Rattle.attribution.specs.EachSample.{bookedOn, OfEachSample}
 use Rattle.attribution.specs.Wiring.{noFault, Wiring}
 use Rattle.attribution.specs.Times.{Timing}
 use Rattle.attribution.specs.Cutting.{Cutting}
@@ -22,10 +22,6 @@ Unseen = (ms : List Marked) → eventsOf (runMarked ms) ≡ run (callsOf ms) .hi
 
 abbrev pub values : List Byte → List ℕ
 values bs = map (λ (b : Byte). b .value) bs
-
--- the request that a sample is booked to
-abbrev pub bookedOn : EscTelemetryUpdate → EscActuatorRequest
-bookedOn u = record { sequence = u .observation .«request_sequence»; output = u .output }
 
 -- all that request k made an ESC send, as far as it came in, is nine bytes and their check byte, and no byte came in after them
 pub record SentFrame (l : Log) (k : ℕ) : Type 0 where
@@ -46,14 +42,9 @@ pub record CameFrom (l : Log) (u : EscTelemetryUpdate) : Type 0 where
   pub says : u .observation .sample ≡ telemetryOf (values (frame .nine ++ frame .check ∷ []))
   pub when : frame .check .at ≡ u .observation .«observed_at_ms»
 
--- for each sample delivered in every list of calls fed to a unit never opened, where what is assumed holds up to its delivery
+-- of every list, where what is assumed holds
 abbrev pub AttributedIf : (Log → Type 0) → Type 0
-AttributedIf Assumed =
-    (ms : List Marked) (later : Log) (e : Entry) (l : Log) (u : EscTelemetryUpdate)
-    → logAfter ms ≡ later ++ e ∷ l
-    → e .seen .requests .delivered ≡ some u
-    → Assumed (e ∷ l)
-    → CameFrom (e ∷ l) u
+AttributedIf Assumed = (ms : List Marked) → OfEachSample Assumed CameFrom ms
 
 -- with the five assumptions, of bytes taken in while no fault stands
 abbrev pub Attributed : Type 0

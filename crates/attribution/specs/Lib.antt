@@ -1,6 +1,11 @@
 pub mod Marks
 pub mod Origin
+pub mod Since
+pub mod EachSample
 pub mod Wiring
+pub mod Clock
 pub mod Times
 pub mod Cutting
 pub mod Attributed
+pub mod Pace
+pub mod NeverAnotherArm

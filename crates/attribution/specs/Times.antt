@@ -1,30 +1,26 @@
 -- Times in place of the two assumptions on quiet: what can be measured.
-use Prim.Native.Nat.{ℕ, _+_, max}
+use Prim.Native.Nat.{ℕ, _+_}
 use mathlib.Core.Path.{_≡_}
-use mathlib.Core.Bool.{Bool, true, not, _||_}
+use mathlib.Core.Bool.{Bool, true, _||_}
 use mathlib.Core.List.{[], _∷_}
 use mathlib.Core.Option.{Option, none, some}
 use lib.Dec.{eqb, leb, ltb}
 use lib.ListN.{length}
 use Rattle.base.specs.Choice.{pick}
 use Rattle.base.specs.Maybe.{is}
-use Rattle.booking.specs.History.{Opening, Timed, Byte, Seen, Since}
+use Rattle.booking.specs.History.{Opening, Byte, Seen, Since}
 use Rattle.attribution.specs.Marks.{Log, sinceIn}
 use Rattle.attribution.specs.Origin.{requests}
 use Rattle.attribution.specs.Wiring.{Test, always, noFault, ofOrigin, ofEachByte, noNoise, askedFirst, oneFrame}
+use Rattle.attribution.specs.Clock.{latestT, steady, grantAt}
 
 -- a 00, a 02 answered yes, a 05, a 04 answered with a timeout, a 07 answered yes
 abbrev pub stamped : Seen → Bool
 stamped s = is (s .opening) || (is (s .requests .granted) || (is (s .wire .byte) || (is (s .requests .timeout) || s .requests .recovered)))
 
 -- the latest T of these
-unfoldable pub clockAt : Log → ℕ
-clockAt [] = 0
-clockAt (e ∷ l) = pick (stamped (e .seen)) (max (clockAt l) (e .seen .now)) (clockAt l)
-
-abbrev pub grantAt : ℕ → ℕ → Option Timed → ℕ → ℕ
-grantAt k number none t = t
-grantAt k number (some g) t = pick (eqb number k) (g .at) t
+abbrev pub clockAt : Log → ℕ
+clockAt l = latestT stamped l
 
 abbrev pub byteAt : ℕ → Option ℕ → Option Byte → ℕ → ℕ
 byteAt k origin none t = t
@@ -46,7 +42,7 @@ quietTime l = quietOf (sinceIn l)
 
 -- a clock that does not run back, by the T of these
 abbrev pub steadyClock : Test
-steadyClock l e = not (stamped (e .seen)) || leb (clockAt l) (e .seen .now)
+steadyClock l e = steady stamped l e
 
 -- an answer within the quiet time: a byte comes less than the quiet time after its request was granted, or after that request's byte
 -- before it
