@@ -8,7 +8,7 @@ use lib.ListN.{length, getD}
 use borrow.Author.Tests.{eqb-true}
 use Rattle.base.specs.Choice.{pick}
 use Rattle.base.specs.Reply.{accepted, refused, isAccepted}
-use Rattle.airframe.specs.Motor.{digit, numberOf}
+use Rattle.airframe.specs.Motor.{digit, motorNumber}
 use Rattle.airframe.specs.Once.{times, eachOnce}
 use Rattle.airframe.specs.BoardMap.{mapOf, readMap}
 use Rattle.airframe.specs.declared.motor.MotorNumber.{MotorNumber}
@@ -20,7 +20,7 @@ use Rattle.airframe.proofs.EachOnceLaws.{Each, each, four-entries, moto
 
 -- the numbers of the motors of lanes 0 to 3
 abbrev pub numbersOf : BoardMap → List ℕ
-numbersOf m = numberOf (m .output1) ∷ numberOf (m .output2) ∷ numberOf (m .output3) ∷ numberOf (m .output4) ∷ []
+numbersOf m = motorNumber (m .output1) ∷ motorNumber (m .output2) ∷ motorNumber (m .output3) ∷ motorNumber (m .output4) ∷ []
 
 record Accepted (s : List ℕ) (m : BoardMap) : Type 0 where
   pub four : length s ≡ 4
@@ -62,6 +62,6 @@ times-digit s w Three = w .three
 times-digit s w Four = w .four
 
 -- each motor is on one lane
-pub on-one-lane : (s : List ℕ) (m : BoardMap) → readMap s ≡ accepted m → (k : Motor) → times (numberOf k) (numbersOf m) ≡ 1
+pub on-one-lane : (s : List ℕ) (m : BoardMap) → readMap s ≡ accepted m → (k : Motor) → times (motorNumber k) (numbersOf m) ≡ 1
 on-one-lane s m e k =
-    ap (times (numberOf k)) (bytes-kept s m e) ∙ times-digit s (each s (read-accepted s m e .once)) (k .0)
+    ap (times (motorNumber k)) (bytes-kept s m e) ∙ times-digit s (each s (read-accepted s m e .once)) (k .0)

@@ -10,7 +10,7 @@ use Rattle.base.specs.Reply.{accepted, isAccepted}
 use Rattle.esc_feedback.specs.declared.output.Lane.{Lane}
 use Rattle.esc_feedback.specs.declared.output.Lane.the-variants.{Output1, Output2, Output3, Output4}
 use Rattle.esc_feedback.specs.declared.output.EscOutput.{EscOutput}
-use Rattle.airframe.specs.Motor.{numberOf, sameMotor}
+use Rattle.airframe.specs.Motor.{motorNumber, sameMotor}
 use Rattle.airframe.specs.Once.{oneFor, times, eachOnce}
 use Rattle.airframe.specs.BoardMap.{onLane, motorOn, outputWith, readMap}
 use Rattle.airframe.specs.declared.motor.Motor.{Motor}
@@ -20,11 +20,11 @@ use Rattle.airframe.proofs.MotorLaws.{same-motor}
 use Rattle.airframe.proofs.BoardMapLaws.{numbersOf, on-one-lane}
 
 same-self : (k : Motor) → sameMotor k k ≡ true
-same-self k = eq-eqb (numberOf k) (numberOf k) refl
+same-self k = eq-eqb (motorNumber k) (motorNumber k) refl
 
 -- 1 where a motor is the one looked for, else 0
 found : Motor → Motor → ℕ
-found k o = oneFor (numberOf k) (numberOf o)
+found k o = oneFor (motorNumber k) (motorNumber o)
 
 -- where it is 1 the motors are the same, where 0 they are not
 found-some : (k o : Motor) → found k o ≡ 1 → k ≡ o
@@ -45,13 +45,13 @@ found-none k o = go (sameMotor k o) refl
 
 found-self : (k : Motor) → found k k ≡ 1
 unfolding found
-found-self k = one-same (numberOf k)
+found-self k = one-same (motorNumber k)
 
 found-other : (k o : Motor) → sameMotor k o ≡ false → found k o ≡ 0
 unfolding oneFor found
 found-other k o e = rw e
 
-module _ (m : BoardMap) (once : (k : Motor) → times (numberOf k) (numbersOf m) ≡ 1) where
+module _ (m : BoardMap) (once : (k : Motor) → times (motorNumber k) (numbersOf m) ≡ 1) where
   -- each motor is found once on the four lanes
   on-one : (k : Motor) → found k (m .output1) + (found k (m .output2) + (found k (m .output3) + found k (m .output4))) ≡ 1
   unfolding times found

@@ -5,7 +5,7 @@ use Rattle.esc_feedback.specs.Output.{laneNumber, laneOf}
 use Rattle.esc_feedback.specs.declared.output.Lane.{Lane}
 use Rattle.esc_feedback.specs.declared.output.Lane.the-variants.{Output1, Output2, Output3, Output4}
 use Rattle.esc_feedback.specs.declared.output.EscOutput.{EscOutput}
-use Rattle.airframe.specs.Motor.{digit, numberOf, motorOf, readMotor}
+use Rattle.airframe.specs.Motor.{digit, motorNumber, motorOf, readMotor}
 use Rattle.airframe.specs.Lane.{readLane}
 use Rattle.airframe.specs.BoardMap.{motorOn, outputWith, converted, motorOnByte, outputWithByte}
 use Rattle.airframe.specs.declared.motor.MotorNumber.{MotorNumber}
@@ -30,5 +30,5 @@ read-digit Four = refl
 pub motor-by-byte : (m : BoardMap) (o : EscOutput) → motorOnByte m (laneOf o) ≡ accepted (motorOn m o)
 motor-by-byte m o = ap (converted (motorOn m)) (read-lane (o .0))
 
-pub output-by-byte : (m : BoardMap) (k : Motor) → outputWithByte m (numberOf k) ≡ accepted (outputWith m k)
+pub output-by-byte : (m : BoardMap) (k : Motor) → outputWithByte m (motorNumber k) ≡ accepted (outputWith m k)
 output-by-byte m k = ap (converted (outputWith m)) (read-digit (k .0))

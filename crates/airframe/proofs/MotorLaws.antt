@@ -4,7 +4,7 @@ use mathlib.Core.Bool.{true}
 use Prim.Native.Nat.{ℕ, zero, suc, _≤_}
 use native.Mathlib.Omega.{arith}
 use borrow.Author.Tests.{eqb-true}
-use Rattle.airframe.specs.Motor.{digit, numberOf, sameMotor, motorOf}
+use Rattle.airframe.specs.Motor.{digit, motorNumber, sameMotor, motorOf}
 use Rattle.airframe.specs.declared.motor.MotorNumber.{MotorNumber}
 use Rattle.airframe.specs.declared.motor.MotorNumber.the-variants.{One, Two, Three, Four}
 use Rattle.airframe.specs.declared.motor.Motor.{Motor}
@@ -16,10 +16,10 @@ motor-of-digit Two = refl
 motor-of-digit Three = refl
 motor-of-digit Four = refl
 
-motor-of-number : (k : Motor) → motorOf (numberOf k) ≡ k
+motor-of-number : (k : Motor) → motorOf (motorNumber k) ≡ k
 motor-of-number k = motor-of-digit (k .0)
 
-pub number-of-motor : (n : ℕ) → (1 ≤ n) × (n ≤ 4) → numberOf (motorOf n) ≡ n
+pub number-of-motor : (n : ℕ) → (1 ≤ n) × (n ≤ 4) → motorNumber (motorOf n) ≡ n
 unfolding motorOf
 number-of-motor zero h = absurd (omega arith)
 number-of-motor (suc zero) h = refl

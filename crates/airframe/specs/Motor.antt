@@ -16,11 +16,11 @@ digit Two = 2
 digit Three = 3
 digit Four = 4
 
-abbrev pub numberOf : Motor → ℕ
-numberOf m = digit (m .0)
+abbrev pub motorNumber : Motor → ℕ
+motorNumber m = digit (m .0)
 
 abbrev pub sameMotor : Motor → Motor → Bool
-sameMotor a b = eqb (numberOf a) (numberOf b)
+sameMotor a b = eqb (motorNumber a) (motorNumber b)
 
 -- the motor of a number 1 to 4
 unfoldable pub motorOf : ℕ → Motor

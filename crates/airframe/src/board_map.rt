@@ -45,6 +45,7 @@ impl BoardMap {
         BoardMapRead::Map(map_of(bytes))
     }
 
+    // The motor on a lane.
     pub fn motor(self, output: EscOutput) -> Motor
         ensures { λ r. ⌜ r ≡ motorOn self output ⌝ }
     {

@@ -10,6 +10,7 @@ pub enum OutputRead {
     OutOfRange,
 }
 
+// The output of a lane's number, or 6 above 3.
 pub fn output_of_lane(lane: u8) -> OutputRead
     ensures { λ r. ⌜ outputRead r ≡ readLane lane ⌝ }
 {

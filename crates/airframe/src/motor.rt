@@ -2,7 +2,7 @@
 // other.
 ghost use mathlib.Core.Path.{_≡_};
 ghost use Prim.Native.Nat.{_≤_};
-ghost use Rattle.airframe.specs.Motor.{numberOf, sameMotor, motorOf, readMotor, motorRead};
+ghost use Rattle.airframe.specs.Motor.{motorNumber, sameMotor, motorOf, readMotor, motorRead};
 
 pub enum MotorNumber {
     One,
@@ -20,6 +20,7 @@ pub enum MotorRead {
 }
 
 impl Motor {
+    // The motor of a number, or 6 where it is not 1 to 4.
     pub fn from_byte(byte: u8) -> MotorRead
         ensures { λ r. ⌜ motorRead r ≡ readMotor byte ⌝ }
     {
@@ -32,8 +33,9 @@ impl Motor {
         MotorRead::Motor(motor_of(byte))
     }
 
+    // The motor's number, 1 to 4.
     pub fn number(self) -> u8
-        ensures { λ r. ⌜ r ≡ numberOf self ⌝ }
+        ensures { λ r. ⌜ r ≡ motorNumber self ⌝ }
     {
         let number = self.0;
         match number {
@@ -44,6 +46,7 @@ impl Motor {
         }
     }
 
+    // Two values of an enum can't be compared by ==.
     pub fn same(self, other: Motor) -> bool
         ensures { λ r. ⌜ r ≡ sameMotor self other ⌝ }
     {

@@ -7,12 +7,12 @@ use Rattle.esc_feedback.specs.declared.config.EscManagerConfig.{EscManagerConfi
 use Rattle.esc_records.specs.declared.record.Record.the-variants as kind
 use Rattle.esc_records.specs.declared.answer.Answer.the-variants as answer
 use Rattle.booking.specs.History.{Opening, Seen, Past, Since, seen}
-use Rattle.attribution.specs.Marks.{Entry, Log, sinceIn}
+use Rattle.attribution.specs.Marks.{LogEntry, Log, sinceIn}
 use Rattle.attribution.proofs.LawfulLog.{Lawful, start, opened, more}
 use Rattle.attribution.proofs.Steps.{Step, plain, grants, takes, answers, ends, restarts, step}
 
 -- the entry of a 00
-abbrev pub openingOf : EscManagerConfig → ℕ → Option ℕ → Entry
+abbrev pub openingOf : EscManagerConfig → ℕ → Option ℕ → LogEntry
 openingOf c t o = record { seen = seen (kind.Open c t) answer.Done; origin = o }
 
 step-opening : (o : Opening) (h : Past) (e : Seen) → Step o h e → e .opening ≡ none
@@ -24,7 +24,7 @@ step-opening o h e (ends t s) = s .opening
 step-opening o h e (restarts c f w s) = s .opening
 
 -- what has come since the opening, with one entry more
-since-opening : (l : Log) (s : Since) (e : Entry) → sinceIn l ≡ some s → Step (s .opening) (s .past) (e .seen)
+since-opening : (l : Log) (s : Since) (e : LogEntry) → sinceIn l ≡ some s → Step (s .opening) (s .past) (e .seen)
     → sinceIn (e ∷ l) ≡ some (record { opening = s .opening; past = e .seen ∷ s .past })
 unfolding sinceIn
 since-opening l s e x st = rw (x, step-opening (s .opening) (s .past) (e .seen) st)
@@ -32,9 +32,9 @@ since-opening l s e x st = rw (x, step-opening (s .opening) (s .past) (e .seen) 
 module _ (Q : Log → Option Since → Type 0) (empty : Q [] none)
     (opening : (l : Log) (c : EscManagerConfig) (t : ℕ) (o : Option ℕ) → Q l (sinceIn l)
     → Q (openingOf c t o ∷ l) (some (record { opening = record { config = c; boot = t }; past = [] })))
-    (stepping : (l : Log) (s : Since) (e : Entry) → Lawful l → sinceIn l ≡ some s → Step (s .opening) (s .past) (e .seen) → Q l (some s)
+    (stepping : (l : Log) (s : Since) (e : LogEntry) → Lawful l → sinceIn l ≡ some s → Step (s .opening) (s .past) (e .seen) → Q l (some s)
     → Q (e ∷ l) (some (record { opening = s .opening; past = e .seen ∷ s .past }))) where
-  stepped : (l : Log) (s : Since) (e : Entry) → Lawful l → sinceIn l ≡ some s → Step (s .opening) (s .past) (e .seen) → Q l (sinceIn l)
+  stepped : (l : Log) (s : Since) (e : LogEntry) → Lawful l → sinceIn l ≡ some s → Step (s .opening) (s .past) (e .seen) → Q l (sinceIn l)
       → Q (e ∷ l) (sinceIn (e ∷ l))
   stepped l s e i x st q = subst (Q (e ∷ l)) (sym (since-opening l s e x st)) (stepping l s e i x st (subst (Q l) x q))
 

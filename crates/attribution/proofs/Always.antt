@@ -2,11 +2,11 @@
 use mathlib.Core.Path.{_≡_}
 use mathlib.Core.Bool.{true}
 use mathlib.Core.List.{_∷_}
-use Rattle.attribution.specs.Marks.{Entry, Log}
-use Rattle.attribution.specs.Wiring.{Test, always}
+use Rattle.attribution.specs.Marks.{LogEntry, Log}
+use Rattle.attribution.specs.Wiring.{EntryTest, always}
 use Rattle.attribution.proofs.Both.{and-left, and-right}
 
-module _ (t : Test) (l : Log) (e : Entry) (x : always t (e ∷ l) ≡ true) where
+module _ (t : EntryTest) (l : Log) (e : LogEntry) (x : always t (e ∷ l) ≡ true) where
   pub now : t l e ≡ true
   unfolding always
   now = and-left (t l e) _ x

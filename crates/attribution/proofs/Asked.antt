@@ -15,8 +15,8 @@ use Rattle.esc_feedback.specs.declared.request.EscActuatorRequest.{EscActuatorR
 use Rattle.booking.specs.History.{Byte}
 use Rattle.booking.specs.Wire.{Frame}
 use Rattle.booking.specs.Booking.{booked}
-use Rattle.attribution.specs.Marks.{Entry, Log}
-use Rattle.attribution.specs.Origin.{requests, sentBy, Taken, sentAs}
+use Rattle.attribution.specs.Marks.{LogEntry, Log}
+use Rattle.attribution.specs.Origin.{requests, sentBy, Arrival, sentAs}
 use Rattle.attribution.specs.Since.{takenSince, valuesOf, all}
 use Rattle.attribution.specs.Attributed.{values, SentFrame, CameFrom}
 use Rattle.attribution.proofs.Since.{since-same, since-more, taken-before}
@@ -37,15 +37,15 @@ pub record Asked (l : Log) (q : EscActuatorRequest) : Type 0 where
   pub spent : Spent l (length earlier)
   pub own : Own l (length earlier)
 
-abbrev bytesIn : List Taken → List Byte
-bytesIn ts = map (λ (t : Taken). t .byte) ts
+abbrev bytesIn : List Arrival → List Byte
+bytesIn ts = map (λ (t : Arrival). t .byte) ts
 
 as-sent : (k : ℕ) (bs : List Byte) → bytesIn (sentAs k bs) ≡ bs
 as-sent k [] = refl
 as-sent k (b ∷ bs) = ap (λ (s : List Byte). b ∷ s) (as-sent k bs)
 
-values-in : (ts : List Taken) → valuesOf ts ≡ values (bytesIn ts)
-values-in ts = sym (map-map (λ (b : Byte). b .value) (λ (t : Taken). t .byte) ts)
+values-in : (ts : List Arrival) → valuesOf ts ≡ values (bytesIn ts)
+values-in ts = sym (map-map (λ (b : Byte). b .value) (λ (t : Arrival). t .byte) ts)
 
 no-more : {A : Type 0} (s : List A) → length s ≡ 0 → s ≡ []
 no-more [] e = refl
@@ -87,7 +87,7 @@ module _ (l : Log) (k : ℕ) (o : Own l k) (f : Frame) (r : ReadFrom (takenSince
         checks = t .checks ∙ ap crcOf (values-in (t .nine));
         sent = o .sent ∙ rw (no-more (o .before) (omega (arith, own-long, sent-long))) ten;
         others = older .others;
-        newest = older .whole ∙ ap (λ (s : List Taken). older .others ++ s) (o .since ∙ ap (sentAs k) ten);
+        newest = older .whole ∙ ap (λ (s : List Arrival). older .others ++ s) (o .since ∙ ap (sentAs k) ten);
       }
 
 pub came : (l : Log) (q : EscActuatorRequest) (f : Frame) → Asked l q → ReadFrom (takenSince l) f → CameFrom l (booked q f)
@@ -108,7 +108,7 @@ all-spent l q f a r k i c o = below-or-not k (length (a .earlier)) (λ b. a .spe
     own : k ≡ length (a .earlier) → 10 ≤ length (sentBy k l)
     own z = rw z (ten-sent l (length (a .earlier)) (a .own) f r)
 
-module _ (l : Log) (e : Entry) (g : e .seen .requests .granted ≡ none) (o : e .seen .opening ≡ none) (r : e .seen .requests .recovered ≡ false)
+module _ (l : Log) (e : LogEntry) (g : e .seen .requests .granted ≡ none) (o : e .seen .opening ≡ none) (r : e .seen .requests .recovered ≡ false)
     (q : EscActuatorRequest) (a : Asked l q) where
   abbrev number : ℕ
   number = length (a .earlier)

@@ -14,9 +14,9 @@ use Rattle.booking.specs.Wire.{OnWire, byte, Frame, wire, latest, frameAt, time
 use Rattle.booking.specs.Booking.{bookedTo, openRequest, latestFrame, startedRequest, newlyStarted}
 use Rattle.booking.specs.Faults.{faulted}
 use Rattle.booking.specs.Claims.{pastOf}
-use Rattle.attribution.specs.Marks.{Entry, Log, sinceIn, past}
+use Rattle.attribution.specs.Marks.{LogEntry, Log, sinceIn, past}
 use Rattle.attribution.specs.Origin.{requests}
-use Rattle.attribution.specs.Wiring.{noFault, Wiring}
+use Rattle.attribution.specs.Wiring.{whileNoFault, Wiring}
 use Rattle.attribution.specs.Attributed.{Attributed}
 use Rattle.attribution.proofs.LawfulLog.{Lawful, lawful-at}
 use Rattle.attribution.proofs.Steps.{Shows, Step, plain, grants, takes, answers, ends, restarts}
@@ -30,7 +30,7 @@ use Rattle.attribution.proofs.Delivery.{delivery}
 use Rattle.attribution.proofs.Asked.{all-spent}
 use Rattle.attribution.proofs.CameFrom.{Stands, Covers, stands}
 
-covers : Covers noFault
+covers : Covers whileNoFault
 covers l i k = go (faulted (past l)) refl
   where
     go : (f : Bool) → faulted (past l) ≡ f → not f ≡ true
@@ -46,7 +46,7 @@ unbooked : (x : Option EscActuatorRequest) → bookedTo x none ≡ none
 unbooked none = refl
 unbooked (some q) = refl
 
-module _ (o : Opening) (l : Log) (h : Past) (e : Entry) (i : Stands l h) (unasked : Calm h) (c : Silent h)
+module _ (o : Opening) (l : Log) (h : Past) (e : LogEntry) (i : Stands l h) (unasked : Calm h) (c : Silent h)
     (known : (b : Byte) → e .seen .wire .byte ≡ some b → faulted h ≡ false → Origin l (e .origin)) where
   -- no byte, no grant, no recovery
   same-silent : Shows (e .seen) none none none none false → Silent (e .seen ∷ h)
@@ -152,8 +152,8 @@ record Quiet (l : Log) (h : Past) : Type 0 where
   silent : Silent h
   granting : CleanGrants l
 
-module _ (l : Log) (s : Since) (e : Entry) (i : Lawful l) (x : sinceIn l ≡ some s) (st : Step (s .opening) (s .past) (e .seen))
-    (w : Wiring noFault (e ∷ l)) (j : Quiet l (s .past)) where
+module _ (l : Log) (s : Since) (e : LogEntry) (i : Lawful l) (x : sinceIn l ≡ some s) (st : Step (s .opening) (s .past) (e .seen))
+    (w : Wiring whileNoFault (e ∷ l)) (j : Quiet l (s .past)) where
   quiet-more : Quiet (e ∷ l) (e .seen ∷ s .past)
   quiet-more =
       record {
@@ -166,22 +166,22 @@ module _ (l : Log) (s : Since) (e : Entry) (i : Lawful l) (x : sinceIn l ≡ som
       same = ap pastOf x
 
       at-l : Stands l (s .past)
-      at-l = subst (Stands l) same (stands noFault covers l i (wiring-before noFault l e w) (j .granting))
+      at-l = subst (Stands l) same (stands whileNoFault covers l i (wiring-before whileNoFault l e w) (j .granting))
 
       calm-l : Calm (s .past)
       calm-l = subst Calm same (calm l i)
 
       known : (b : Byte) → e .seen .wire .byte ≡ some b → faulted (s .past) ≡ false → Origin l (e .origin)
-      known b y f = origin noFault l e w b y (ap not (ap faulted same ∙ f))
+      known b y f = origin whileNoFault l e w b y (ap not (ap faulted same ∙ f))
 
-quiet : (l : Log) → Lawful l → Wiring noFault l → Quiet l (past l)
+quiet : (l : Log) → Lawful l → Wiring whileNoFault l → Quiet l (past l)
 quiet =
-    along (λ l s. Wiring noFault l → Quiet l (pastOf s)) (λ w. record { silent = silent-new; granting = tt })
+    along (λ l s. Wiring whileNoFault l → Quiet l (pastOf s)) (λ w. record { silent = silent-new; granting = tt })
     (λ l c t o i w.
-    record { silent = silent-new; granting = (λ g k. absurd (Option·none-ne-some g k), i (wiring-before noFault l (openingOf c t o) w) .granting) })
-    (λ l s e k x st i w. quiet-more l s e k x st w (i (wiring-before noFault l e w)))
+    record { silent = silent-new; granting = (λ g k. absurd (Option·none-ne-some g k), i (wiring-before whileNoFault l (openingOf c t o) w) .granting) })
+    (λ l s e k x st i w. quiet-more l s e k x st w (i (wiring-before whileNoFault l e w)))
 
 pub attributed : Attributed
 attributed ms later e l u x d w =
     let i = lawful-at ms later (e ∷ l) x in
-    stands noFault covers (e ∷ l) i w (quiet (e ∷ l) i w .granting) .came-from u d
+    stands whileNoFault covers (e ∷ l) i w (quiet (e ∷ l) i w .granting) .came-from u d

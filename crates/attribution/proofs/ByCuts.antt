@@ -5,7 +5,7 @@ use mathlib.Core.Bool.{true, false≢true}
 use Rattle.booking.specs.Wire.{OnWire, byte, cut, wire, latest}
 use Rattle.attribution.specs.Marks.{Log, past}
 use Rattle.attribution.specs.Wiring.{always}
-use Rattle.attribution.specs.Cutting.{asking, justCut, cutFirst}
+use Rattle.attribution.specs.Cutting.{asking, noByteSince, cutFirst}
 use Rattle.attribution.specs.Attributed.{AttributedByCuts}
 use Rattle.attribution.proofs.Always.{now, before}
 use Rattle.attribution.proofs.LawfulLog.{lawful-at}
@@ -13,7 +13,7 @@ use Rattle.attribution.proofs.Latest.{Clean}
 use Rattle.attribution.proofs.Within.{CleanGrants}
 use Rattle.attribution.proofs.CameFrom.{stands}
 
-cut-clean : (w : List OnWire) → justCut w ≡ true → Clean w
+cut-clean : (w : List OnWire) → noByteSince w ≡ true → Clean w
 unfolding latest
 cut-clean [] e = refl
 cut-clean (cut ∷ w) e = refl

@@ -11,9 +11,9 @@ use borrow.Author.Tests.{le-leb}
 use Rattle.base.specs.Maybe.{is}
 use Rattle.booking.specs.History.{Byte}
 use Rattle.booking.specs.Faults.{faulted}
-use Rattle.attribution.specs.Marks.{Entry, Log, sinceIn, past}
+use Rattle.attribution.specs.Marks.{LogEntry, Log, sinceIn, past}
 use Rattle.attribution.specs.Origin.{atRecovery, atOpening}
-use Rattle.attribution.specs.Wiring.{always, noFault, ofOrigin, ofEachByte, quietRecovery, quietOpening}
+use Rattle.attribution.specs.Wiring.{always, whileNoFault, ofOrigin, ofEachByte, quietRecovery, quietOpening}
 use Rattle.attribution.specs.Times.{clockAt, quietTime}
 use Rattle.attribution.specs.Attributed.{AttributedByTimes}
 use Rattle.attribution.proofs.LawfulLog.{Lawful, opened, more, lawful-at}
@@ -22,8 +22,8 @@ use Rattle.attribution.proofs.Heard.{earlier, stamped-byte}
 use Rattle.attribution.proofs.Timely.{not-earlier, TimelySince, Times, times-before, clock-holds, answer-now, timely}
 
 -- a byte's origin is no earlier request
-late-enough : (l : Log) (e : Entry) → TimelySince l (sinceIn l) → Times (e ∷ l) → (n : ℕ) → n ≤ earlier l
-    → ofEachByte noFault (ofOrigin (λ k. leb n k)) l e ≡ true
+late-enough : (l : Log) (e : LogEntry) → TimelySince l (sinceIn l) → Times (e ∷ l) → (n : ℕ) → n ≤ earlier l
+    → ofEachByte whileNoFault (ofOrigin (λ k. leb n k)) l e ≡ true
 late-enough l e i t n m = go (e .seen .wire .byte) refl (faulted (past l)) refl (e .origin) refl
   where
     go : (b : Option Byte) → e .seen .wire .byte ≡ b → (f : Bool) → faulted (past l) ≡ f → (o : Option ℕ) → e .origin ≡ o
@@ -37,10 +37,10 @@ late-enough l e i t n m = go (e .seen .wire .byte) refl (faulted (past l)) refl 
         le-leb n k (omega arith)
 
 record Quiets (l : Log) : Type 0 where
-  e4 : always (quietRecovery noFault) l ≡ true
-  e5 : always (quietOpening noFault) l ≡ true
+  e4 : always (quietRecovery whileNoFault) l ≡ true
+  e5 : always (quietOpening whileNoFault) l ≡ true
 
-quiets-more : (l : Log) (e : Entry) → Quiets l → TimelySince l (sinceIn l) → Times (e ∷ l) → Quiets (e ∷ l)
+quiets-more : (l : Log) (e : LogEntry) → Quiets l → TimelySince l (sinceIn l) → Times (e ∷ l) → Quiets (e ∷ l)
 unfolding always
 quiets-more l e q i t =
     record {

@@ -17,7 +17,7 @@ use Rattle.booking.specs.Wire.{wire}
 use Rattle.booking.specs.Booking.{openRequest}
 use Rattle.booking.specs.Faults.{faulted}
 use Rattle.booking.specs.Claims.{pastOf}
-use Rattle.attribution.specs.Marks.{Entry, Log, sinceIn, past}
+use Rattle.attribution.specs.Marks.{LogEntry, Log, sinceIn, past}
 use Rattle.attribution.specs.Origin.{requests, sentBy, atRecovery, atOpening}
 use Rattle.attribution.specs.Since.{takenSince}
 use Rattle.attribution.specs.Wiring.{Scope, Wiring}
@@ -43,7 +43,7 @@ pub record Stands (l : Log) (h : Past) : Type 0 where
 late : (n k : ℕ) → k < n → n ≤ k → ⊥
 late n k a b = omega arith
 
-module _ (o : Opening) (l : Log) (h : Past) (e : Entry) (i : Stands l h) (unasked : Calm h)
+module _ (o : Opening) (l : Log) (h : Past) (e : LogEntry) (i : Stands l h) (unasked : Calm h)
     (known : (q : Timed) → openRequest h ≡ some q → (b : Byte) → e .seen .wire .byte ≡ some b → Origin l (e .origin))
     (w : Within (takenSince (e ∷ l)) (e .seen ∷ h)) (delivers : (u : EscTelemetryUpdate) → e .seen .requests .delivered ≡ some u → Delivery h e u) where
   -- an entry that neither grants nor ends a request
@@ -166,7 +166,7 @@ abbrev pub Covers : Scope → Type 0
 Covers scope = (l : Log) → Lawful l → is (openRequest (past l)) ≡ true → scope l ≡ true
 
 module _ (scope : Scope) (covers : Covers scope) where
-  stands-more : (l : Log) (s : Since) (e : Entry) → Lawful l → sinceIn l ≡ some s → Step (s .opening) (s .past) (e .seen)
+  stands-more : (l : Log) (s : Since) (e : LogEntry) → Lawful l → sinceIn l ≡ some s → Step (s .opening) (s .past) (e .seen)
       → Wiring scope (e ∷ l) → CleanGrants (e ∷ l) → Stands l (s .past) → Stands (e ∷ l) (e .seen ∷ s .past)
   stands-more l s e k x st w c i =
       step-stands (s .opening) l (s .past) e i (subst Calm same (calm l k)) (λ q y b z. origin scope l e w b z (covers l k (rw (same, y))))

@@ -6,10 +6,10 @@ use Prim.Native.Nat.{_≤_, max}
 use native.Mathlib.Omega.{arith}
 use Rattle.base.specs.Choice.{pick}
 use Rattle.booking.specs.History.{Seen}
-use Rattle.attribution.specs.Marks.{Entry, Log}
+use Rattle.attribution.specs.Marks.{LogEntry, Log}
 use Rattle.attribution.specs.Clock.{latestT}
 
-module _ (kinds : Seen → Bool) (l : Log) (e : Entry) where
+module _ (kinds : Seen → Bool) (l : Log) (e : LogEntry) where
   pub time-grows : latestT kinds l ≤ latestT kinds (e ∷ l)
   unfolding latestT
   time-grows = go (kinds (e .seen))

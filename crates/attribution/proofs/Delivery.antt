@@ -13,7 +13,7 @@ use Rattle.booking.specs.History.{Opening, Timed, Past}
 use Rattle.booking.specs.Wire.{Frame, wire, frameAt, timed}
 use Rattle.booking.specs.Booking.{booked, bookedTo, onlyThe, openRequest, latestFrame, newlyStarted, startedRequest}
 use Rattle.booking.specs.Claims.{pastOf}
-use Rattle.attribution.specs.Marks.{Entry, Log, past}
+use Rattle.attribution.specs.Marks.{LogEntry, Log, past}
 use Rattle.attribution.specs.Origin.{requests}
 use Rattle.attribution.specs.EachSample.{bookedOn}
 use Rattle.attribution.proofs.LawfulLog.{Lawful}
@@ -22,7 +22,7 @@ use Rattle.attribution.proofs.Along.{openingOf, along}
 use Rattle.attribution.proofs.Spent.{requests-keep}
 use Rattle.attribution.proofs.WireSteps.{frame-same, latest-now}
 
-pub record Delivery (h : Past) (e : Entry) (u : EscTelemetryUpdate) : Type 0 where
+pub record Delivery (h : Past) (e : LogEntry) (u : EscTelemetryUpdate) : Type 0 where
   pub asked : Timed
   pub there : openRequest h ≡ some asked
   pub frame : Frame
@@ -30,7 +30,7 @@ pub record Delivery (h : Past) (e : Entry) (u : EscTelemetryUpdate) : Type 0 whe
   pub sample : booked (asked .request) frame ≡ u
   pub passes : Passes (e .seen)
 
-module _ (o : Opening) (h : Past) (e : Entry) (u : EscTelemetryUpdate) where
+module _ (o : Opening) (h : Past) (e : LogEntry) (u : EscTelemetryUpdate) where
   -- what a rule books to the open request
   booking : Passes (e .seen) → (ok : EscActuatorRequest → Bool) (f : Option Frame) → ((k : Frame) → f ≡ some k → latestFrame (e .seen ∷ h) ≡ some k)
       → bookedTo (onlyThe (openRequest h) ok) f ≡ some u → Delivery h e u
@@ -83,7 +83,7 @@ pub record Booked (l : Log) (h : Past) : Type 0 where
   pub asked : (q : Timed) → openRequest h ≡ some q → Latest l (q .request)
   pub delivers : (u : EscTelemetryUpdate) → deliveredIn l ≡ some u → Delivered l h u
 
-module _ (o : Opening) (l : Log) (h : Past) (e : Entry) (i : Booked l h) where
+module _ (o : Opening) (l : Log) (h : Past) (e : LogEntry) (i : Booked l h) where
   latest-keeps : (q : EscActuatorRequest) → e .seen .requests .granted ≡ none → Latest l q → Latest (e ∷ l) q
   latest-keeps q g k = record { earlier = k .earlier; newest = requests-keep l e g ∙ k .newest }
 

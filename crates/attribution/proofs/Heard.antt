@@ -12,19 +12,19 @@ use Rattle.esc_feedback.specs.declared.answer.EscManagerTimeout.{EscManagerTime
 use Rattle.base.specs.Maybe.{is}
 use Rattle.booking.specs.History.{Timed, Byte, Seen, Past}
 use Rattle.booking.specs.Faults.{faulted, quietSince}
-use Rattle.attribution.specs.Marks.{Entry, Log}
+use Rattle.attribution.specs.Marks.{LogEntry, Log}
 use Rattle.attribution.specs.Origin.{requests, atRecovery, atOpening}
-use Rattle.attribution.specs.Times.{stamped, clockAt, byteAt, heardAt}
+use Rattle.attribution.specs.Times.{stamped, clockAt, byteAt, lastHeard}
 use Rattle.attribution.proofs.Clock.{time-grows, time-now}
 
 -- how many requests are earlier than the latest recovery or opening
 abbrev pub earlier : Log → ℕ
 earlier l = max (atRecovery l) (atOpening l)
 
-pub clock-grows : (l : Log) (e : Entry) → clockAt l ≤ clockAt (e ∷ l)
+pub clock-grows : (l : Log) (e : LogEntry) → clockAt l ≤ clockAt (e ∷ l)
 clock-grows l e = time-grows stamped l e
 
-pub clock-now : (l : Log) (e : Entry) → stamped (e .seen) ≡ true → e .seen .now ≤ clockAt (e ∷ l)
+pub clock-now : (l : Log) (e : LogEntry) → stamped (e .seen) ≡ true → e .seen .now ≤ clockAt (e ∷ l)
 clock-now l e s = time-now stamped l e s
 
 pub stamped-grant : (e : Seen) (g : Timed) → e .requests .granted ≡ some g → stamped e ≡ true
@@ -40,22 +40,22 @@ pub stamped-recovery : (e : Seen) → e .requests .recovered ≡ true → stampe
 stamped-recovery e x =
     rw (x, or-true (is (e .requests .timeout)), or-true (is (e .wire .byte)), or-true (is (e .requests .granted))) (or-true (is (e .opening)))
 
-pub earlier-keeps : (l : Log) (e : Entry) → e .seen .requests .recovered ≡ false → e .seen .opening ≡ none → earlier (e ∷ l) ≡ earlier l
+pub earlier-keeps : (l : Log) (e : LogEntry) → e .seen .requests .recovered ≡ false → e .seen .opening ≡ none → earlier (e ∷ l) ≡ earlier l
 unfolding atRecovery atOpening
 earlier-keeps l e r o = rw (r, o)
 
-pub heard-keeps : (l : Log) (e : Entry) (k : ℕ) → e .seen .requests .granted ≡ none → e .seen .wire .byte ≡ none → heardAt k (e ∷ l) ≡ heardAt k l
-unfolding heardAt
+pub heard-keeps : (l : Log) (e : LogEntry) (k : ℕ) → e .seen .requests .granted ≡ none → e .seen .wire .byte ≡ none → lastHeard k (e ∷ l) ≡ lastHeard k l
+unfolding lastHeard
 heard-keeps l e k g b = rw (b, g)
 
-pub heard-grant : (l : Log) (e : Entry) (k : ℕ) (g : Timed) → e .seen .requests .granted ≡ some g → e .seen .wire .byte ≡ none
-    → heardAt k (e ∷ l) ≡ pick (eqb (length (requests l)) k) (g .at) (heardAt k l)
-unfolding heardAt
+pub heard-grant : (l : Log) (e : LogEntry) (k : ℕ) (g : Timed) → e .seen .requests .granted ≡ some g → e .seen .wire .byte ≡ none
+    → lastHeard k (e ∷ l) ≡ pick (eqb (length (requests l)) k) (g .at) (lastHeard k l)
+unfolding lastHeard
 heard-grant l e k g x b = rw (b, x)
 
-pub heard-byte : (l : Log) (e : Entry) (k : ℕ) (b : Byte) → e .seen .requests .granted ≡ none → e .seen .wire .byte ≡ some b
-    → heardAt k (e ∷ l) ≡ byteAt k (e .origin) (some b) (heardAt k l)
-unfolding heardAt
+pub heard-byte : (l : Log) (e : LogEntry) (k : ℕ) (b : Byte) → e .seen .requests .granted ≡ none → e .seen .wire .byte ≡ some b
+    → lastHeard k (e ∷ l) ≡ byteAt k (e .origin) (some b) (lastHeard k l)
+unfolding lastHeard
 heard-byte l e k b g x = rw (x, g)
 
 pub fault-keeps : (h : Past) (e : Seen) → e .requests .timeout ≡ none → e .requests .recovered ≡ false → faulted (e ∷ h) ≡ faulted h

@@ -18,7 +18,7 @@ use Rattle.esc_records.specs.declared.answer.Answer.{Answer}
 use Rattle.esc_records.specs.declared.answer.Answer.the-variants as answer
 use Rattle.booking.specs.History.{Since, seen, then, sinceEvent, since}
 use Rattle.booking.specs.Rule.{answerTo, replyTo, withRoom, replyOn, ruleFor}
-use Rattle.attribution.specs.Marks.{Marked, MarkedHistory, eventsOf, Log, entered, logOf, logAfter, sinceIn}
+use Rattle.attribution.specs.Marks.{Marked, MarkedHistory, eventsOf, Log, logged, logOf, logAfter, sinceIn}
 use Rattle.attribution.proofs.ByRule.{traceMarked, marked-by-rule}
 
 pub data Lawful : Log → Type 0 where
@@ -29,15 +29,15 @@ pub data Lawful : Log → Type 0 where
 
 -- a reply that there is room for is entered, any other passed over
 fitting : (l : Log) (r : Record) (a : Answer) (o : Option ℕ) (room : ℕ) → Lawful l → Lawful (record { seen = seen r a; origin = o } ∷ l)
-    → Lawful (entered (accepted r) (withRoom room (accepted a)) o l)
+    → Lawful (logged (accepted r) (withRoom room (accepted a)) o l)
 fitting l r a o room i j = go (leb (length (answerBytes a)) room)
   where
-    go : (z : Bool) → Lawful (entered (accepted r) (pick z (accepted a) (refused 9)) o l)
+    go : (z : Bool) → Lawful (logged (accepted r) (pick z (accepted a) (refused 9)) o l)
     go true = j
     go false = i
 
 module _ (l : Log) (o : Option ℕ) (room : ℕ) (i : Lawful l) where
-  never-opened : (r : Record) → Lawful (entered (accepted r) (withRoom room (replyTo none r)) o l)
+  never-opened : (r : Record) → Lawful (logged (accepted r) (withRoom room (replyTo none r)) o l)
   never-opened (kind.Open c t) = fitting l (kind.Open c t) answer.Done o room i (opened c t o i)
   never-opened (kind.NextRequest now) = i
   never-opened (kind.MarkRequestQueued q now) = i
@@ -55,10 +55,10 @@ module _ (l : Log) (o : Option ℕ) (room : ℕ) (i : Lawful l) where
   never-opened (kind.Figures n) = i
 
   module _ (s : Since) (e : sinceIn l ≡ some s) where
-    opened-more : (r : Record) → opens r ≡ false → Lawful (entered (accepted r) (withRoom room (replyTo (some s) r)) o l)
+    opened-more : (r : Record) → opens r ≡ false → Lawful (logged (accepted r) (withRoom room (replyTo (some s) r)) o l)
     opened-more r f = fitting l r (answerTo (s .opening) (s .past) r) o room i (more s r o e f i)
 
-    opened-before : (r : Record) → Lawful (entered (accepted r) (withRoom room (replyTo (some s) r)) o l)
+    opened-before : (r : Record) → Lawful (logged (accepted r) (withRoom room (replyTo (some s) r)) o l)
     opened-before (kind.Open c t) = fitting l (kind.Open c t) answer.Done o room i (opened c t o i)
     opened-before (kind.NextRequest now) = opened-more (kind.NextRequest now) refl
     opened-before (kind.MarkRequestQueued q now) = opened-more (kind.MarkRequestQueued q now) refl
@@ -75,7 +75,7 @@ module _ (l : Log) (o : Option ℕ) (room : ℕ) (i : Lawful l) where
     opened-before (kind.StoredSample n) = opened-more (kind.StoredSample n) refl
     opened-before (kind.Figures n) = opened-more (kind.Figures n) refl
 
-  lawful-entry : (s : Option Since) → sinceIn l ≡ s → (x : Reply Record) → Lawful (entered x (replyOn room s x) o l)
+  lawful-entry : (s : Option Since) → sinceIn l ≡ s → (x : Reply Record) → Lawful (logged x (replyOn room s x) o l)
   lawful-entry s e (refused n) = i
   lawful-entry none e (accepted r) = never-opened r
   lawful-entry (some s) e (accepted r) = opened-before s e r
@@ -87,7 +87,7 @@ since-in [] = refl
 since-in (e ∷ h) = go (readRecord (e .event .call .bytes)) (e .event .reply) (since-in h)
   where
     go : (x : Reply Record) (y : Reply Answer) → since (eventsOf h) ≡ sinceIn (logOf h)
-        → sinceEvent x y (since (eventsOf h)) ≡ sinceIn (entered x y (e .origin) (logOf h))
+        → sinceEvent x y (since (eventsOf h)) ≡ sinceIn (logged x y (e .origin) (logOf h))
     go (refused n) y i = i
     go (accepted r) (refused n) i = i
     go (accepted r) (accepted a) i = ap (then (seen r a .opening) (seen r a)) i

@@ -15,7 +15,7 @@ use Rattle.booking.specs.History.{Byte}
 use Rattle.booking.proofs.Session.{roomy}
 use Rattle.attribution.specs.Marks.{Marked, MarkedHistory, Log, logOf, logAfter}
 use Rattle.attribution.specs.Origin.{requests}
-use Rattle.attribution.specs.Wiring.{always, Scope, noFault, noNoise, askedFirst, oneFrame, quietRecovery, quietOpening}
+use Rattle.attribution.specs.Wiring.{always, Scope, whileNoFault, noNoise, askedFirst, oneFrame, quietRecovery, quietOpening}
 use Rattle.attribution.specs.Times.{steadyClock, prompt, patientOpening}
 use Rattle.attribution.specs.Cutting.{asking, cutFirst}
 use Rattle.attribution.specs.Pace.{askedAndDoneInTime, oneClock, settings, aCut}
@@ -111,14 +111,14 @@ failing (n ∷ ns) = pick (n .holds) (failing ns) (n .name ∷ failing ns)
 
 -- which assumptions of the three forms fail
 abbrev pub wiringFails : Log → List Name
-wiringFails l = failing (five noFault l)
+wiringFails l = failing (five whileNoFault l)
 
 abbrev pub timingFails : Log → List Name
 timingFails l =
     failing
-    (record { name = e1; holds = always (noNoise noFault) l }
-    ∷ record { name = e2; holds = always (askedFirst noFault) l }
-    ∷ record { name = e3; holds = always (oneFrame noFault) l }
+    (record { name = e1; holds = always (noNoise whileNoFault) l }
+    ∷ record { name = e2; holds = always (askedFirst whileNoFault) l }
+    ∷ record { name = e3; holds = always (oneFrame whileNoFault) l }
     ∷ record { name = clock; holds = always steadyClock l }
     ∷ record { name = answer; holds = always prompt l }
     ∷ record { name = reopening; holds = always patientOpening l }

@@ -12,15 +12,15 @@ use Rattle.esc_records.specs.Answer.{requestBytes, sampleBytes, deliveredBytes,
 use Rattle.booking.specs.History.{since}
 use Rattle.booking.specs.Wire.{wire, latest, frameAt}
 use Rattle.booking.specs.Booking.{openRequest, startedAt, latestFrame, newlyStarted, startedRequest}
-use Rattle.booking.specs.Faults.{faulted, quietSince, retries, expired, recovers, note}
+use Rattle.booking.specs.Faults.{faulted, quietSince, retries, timeoutFor, recovers, note}
 use Rattle.booking.specs.Turns.{turn, lastQueued, existing}
-use Rattle.booking.specs.IdleRule.{check, verdict, run, judged}
+use Rattle.booking.specs.IdleRule.{check, verdict, streak, judged}
 use Rattle.booking.specs.Rule.{ruleFor}
 use Rattle.attribution.specs.Marks.{Marked, logOf, logAfter, sinceIn}
 use Rattle.attribution.specs.Origin.{requests, sentBy, atRecovery, atOpening}
-use Rattle.attribution.specs.Wiring.{always, noFault, Wiring}
+use Rattle.attribution.specs.Wiring.{always, whileNoFault, Wiring}
 use Rattle.attribution.specs.Clock.{latestT}
-use Rattle.attribution.specs.Times.{heardAt, Timing}
+use Rattle.attribution.specs.Times.{lastHeard, Timing}
 use Rattle.attribution.specs.Cutting.{Cutting}
 use Rattle.attribution.specs.Attributed.{CameFrom}
 use Rattle.attribution.proofs.ByRule.{traceMarked}
@@ -60,11 +60,11 @@ pub record Live : Type 0 where
   pub noisy-by-cuts : Newest noisy CameFrom
 
 pub live : Live
-unfolding numberAt bytesOf crcBit crcBits crcByte crcFrom crcOf telemetryOf payloadOf due recordOf readRecord requestBytes sampleBytes deliveredBytes failureBytes idleBytes nextBytes ackBytes wireBytes timeoutBytes bodyBytes answerBytes since wire latest frameAt openRequest startedAt latestFrame newlyStarted startedRequest faulted quietSince retries expired recovers note turn lastQueued existing check verdict run judged ruleFor traceMarked logOf sinceIn requests sentBy atRecovery atOpening always latestT heardAt
+unfolding numberAt bytesOf crcBit crcBits crcByte crcFrom crcOf telemetryOf payloadOf due recordOf readRecord requestBytes sampleBytes deliveredBytes failureBytes idleBytes nextBytes ackBytes wireBytes timeoutBytes bodyBytes answerBytes since wire latest frameAt openRequest startedAt latestFrame newlyStarted startedRequest faulted quietSince retries timeoutFor recovers note turn lastQueued existing check verdict streak judged ruleFor traceMarked logOf sinceIn requests sentBy atRecovery atOpening always latestT lastHeard
 live =
     record {
       flight-comes = row flight;
-      by-wiring = newest-by flight CameFrom (Wiring noFault) (attributed flight) refl (record { e1 = refl; e2 = refl; e3 = refl; e4 = refl; e5 = refl });
+      by-wiring = newest-by flight CameFrom (Wiring whileNoFault) (attributed flight) refl (record { e1 = refl; e2 = refl; e3 = refl; e4 = refl; e5 = refl });
       by-times =
           newest-by flight CameFrom Timing (attributed-by-times flight) refl
           (record { e1 = refl; e2 = refl; e3 = refl; clock = refl; answer = refl; reopening = refl });

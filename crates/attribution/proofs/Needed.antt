@@ -13,15 +13,15 @@ use Rattle.esc_records.specs.Answer.{requestBytes, sampleBytes, deliveredBytes,
 use Rattle.booking.specs.History.{since}
 use Rattle.booking.specs.Wire.{wire, latest, frameAt}
 use Rattle.booking.specs.Booking.{openRequest, startedAt, latestFrame, newlyStarted, startedRequest}
-use Rattle.booking.specs.Faults.{faulted, quietSince, retries, expired, recovers, note}
+use Rattle.booking.specs.Faults.{faulted, quietSince, retries, timeoutFor, recovers, note}
 use Rattle.booking.specs.Turns.{turn, lastQueued, existing}
-use Rattle.booking.specs.IdleRule.{check, verdict, run, judged}
+use Rattle.booking.specs.IdleRule.{check, verdict, streak, judged}
 use Rattle.booking.specs.Rule.{ruleFor}
 use Rattle.attribution.specs.Marks.{Marked, logOf, logAfter, sinceIn}
 use Rattle.attribution.specs.Origin.{requests, sentBy, atRecovery, atOpening}
 use Rattle.attribution.specs.Wiring.{always}
 use Rattle.attribution.specs.Clock.{latestT}
-use Rattle.attribution.specs.Times.{heardAt}
+use Rattle.attribution.specs.Times.{lastHeard}
 use Rattle.attribution.specs.Attributed.{CameFrom}
 use Rattle.attribution.proofs.ByRule.{traceMarked}
 use Rattle.attribution.proofs.Lists.{openingWith, opening, queue, acknowledge, poll, cut, recover, ask, zeros, e1, e2, e3, e4, e5, clock, answer, reopening, cutting, Row, row}
@@ -86,7 +86,7 @@ pub record Needed : Type 0 where
   pub reopened-wrong : Refuted CameFrom reopened
 
 pub needed : Needed
-unfolding numberAt bytesOf crcBit crcBits crcByte crcFrom crcOf telemetryOf payloadOf due recordOf readRecord requestBytes sampleBytes deliveredBytes failureBytes idleBytes nextBytes ackBytes wireBytes timeoutBytes bodyBytes answerBytes since wire latest frameAt openRequest startedAt latestFrame newlyStarted startedRequest faulted quietSince retries expired recovers note turn lastQueued existing check verdict run judged ruleFor traceMarked logOf sinceIn requests sentBy atRecovery atOpening always latestT heardAt
+unfolding numberAt bytesOf crcBit crcBits crcByte crcFrom crcOf telemetryOf payloadOf due recordOf readRecord requestBytes sampleBytes deliveredBytes failureBytes idleBytes nextBytes ackBytes wireBytes timeoutBytes bodyBytes answerBytes since wire latest frameAt openRequest startedAt latestFrame newlyStarted startedRequest faulted quietSince retries timeoutFor recovers note turn lastQueued existing check verdict streak judged ruleFor traceMarked logOf sinceIn requests sentBy atRecovery atOpening always latestT lastHeard
 needed =
     record {
       noise-comes = row noise;

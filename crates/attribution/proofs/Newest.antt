@@ -5,14 +5,14 @@ use mathlib.Core.List.{List, [], _∷_}
 use mathlib.Core.Option.{Option, none, some}
 use Rattle.esc_feedback.specs.declared.request.EscTelemetryUpdate.{EscTelemetryUpdate}
 use Rattle.base.specs.Maybe.{is}
-use Rattle.attribution.specs.Marks.{Marked, Entry, Log, logOf, logAfter}
+use Rattle.attribution.specs.Marks.{Marked, LogEntry, Log, logOf, logAfter}
 use Rattle.attribution.specs.EachSample.{OfEachSample}
 use Rattle.attribution.proofs.ByRule.{marked-by-rule}
 use Rattle.attribution.proofs.Delivery.{deliveredIn}
 use Rattle.attribution.proofs.Lists.{ruleLog}
 
 pub record Newest (ms : List Marked) (Claim : Log → EscTelemetryUpdate → Type 0) : Type 0 where
-  pub entry : Entry
+  pub entry : LogEntry
   pub before : Log
   pub sample : EscTelemetryUpdate
   pub newest : logAfter ms ≡ entry ∷ before

@@ -13,7 +13,7 @@ use Rattle.esc_feedback.specs.declared.request.EscTelemetryUpdate.{EscTelemetry
 use Rattle.base.specs.Maybe.{is}
 use Rattle.booking.specs.Counts.{one}
 use Rattle.attribution.specs.Marks.{Marked, Log}
-use Rattle.attribution.specs.Origin.{requests, Taken}
+use Rattle.attribution.specs.Origin.{requests, Arrival}
 use Rattle.attribution.specs.Since.{takenSince, each, all}
 use Rattle.attribution.specs.NeverAnotherArm.{noOther, NoOtherArm}
 use Rattle.attribution.proofs.Both.{and-left, and-right}
@@ -23,19 +23,19 @@ use Rattle.attribution.proofs.Newest.{Refuted, refuted-by}
 
 -- how many bytes pass a test
 module _ (test : Option ℕ → Bool) where
-  abbrev countOf : List Taken → ℕ
+  abbrev countOf : List Arrival → ℕ
   countOf [] = 0
   countOf (t ∷ ts) = one (test (t .origin)) + countOf ts
 
-  count-append : (a b : List Taken) → countOf (a ++ b) ≡ countOf a + countOf b
+  count-append : (a b : List Arrival) → countOf (a ++ b) ≡ countOf a + countOf b
   count-append [] b = omega arith
   count-append (t ∷ a) b = rw (count-append a b) (omega arith)
 
-  count-each : (ts : List Taken) → each test ts ≡ true → countOf ts ≡ length ts
+  count-each : (ts : List Arrival) → each test ts ≡ true → countOf ts ≡ length ts
   count-each [] e = refl
   count-each (t ∷ ts) e = rw (and-left (test (t .origin)) _ e, count-each ts (and-right (test (t .origin)) _ e)) (omega arith)
 
-abbrev ownOf : List EscActuatorRequest → List Taken → ℕ
+abbrev ownOf : List EscActuatorRequest → List Arrival → ℕ
 ownOf [] ts = 0
 ownOf (q ∷ qs) ts = countOf (noOther (length qs)) ts
 

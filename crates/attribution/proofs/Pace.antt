@@ -17,7 +17,7 @@ use Rattle.esc_feedback.specs.declared.request.EscActuatorRequest.{EscActuatorR
 use Rattle.base.specs.Maybe.{is}
 use Rattle.booking.specs.History.{Opening, Byte, Since}
 use Rattle.booking.specs.Turns.{lastQueued}
-use Rattle.attribution.specs.Marks.{Entry, Log, sinceIn}
+use Rattle.attribution.specs.Marks.{LogEntry, Log, sinceIn}
 use Rattle.attribution.specs.Origin.{requests}
 use Rattle.attribution.specs.Since.{takenSince, each}
 use Rattle.attribution.specs.Wiring.{ofOrigin}
@@ -68,7 +68,7 @@ pub record Paced (P : ℕ) (l : Log) (s : Option Since) : Type 0 where
   -- each byte since the latest 02 is noise or of its request
   pub own : (k : ℕ) → length (requests l) ≡ suc k → each (noOther k) (takenSince l) ≡ true
 
-module _ (P : ℕ) (l : Log) (e : Entry) (a : Given P (e ∷ l)) where
+module _ (P : ℕ) (l : Log) (e : LogEntry) (a : Given P (e ∷ l)) where
   given-before : Given P l
   given-before =
       record {

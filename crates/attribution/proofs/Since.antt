@@ -5,12 +5,12 @@ use mathlib.Core.Option.{Option, none, some}
 use mathlib.Core.Bool.{Bool, true, false, _&&_}
 use Prim.Native.Nat.{ℕ}
 use Rattle.booking.specs.History.{Timed, Byte}
-use Rattle.attribution.specs.Marks.{Entry, Log}
-use Rattle.attribution.specs.Origin.{Taken, taken}
+use Rattle.attribution.specs.Marks.{LogEntry, Log}
+use Rattle.attribution.specs.Origin.{Arrival, arrivals}
 use Rattle.attribution.specs.Since.{takenSince, each}
 use Rattle.attribution.proofs.Both.{and-left, and-right}
 
-module _ (l : Log) (e : Entry) where
+module _ (l : Log) (e : LogEntry) where
   pub since-same : e .seen .requests .granted ≡ none → e .seen .wire .byte ≡ none → takenSince (e ∷ l) ≡ takenSince l
   unfolding takenSince
   since-same g b = rw (g, b) (append-nil (takenSince l))
@@ -24,7 +24,7 @@ module _ (l : Log) (e : Entry) where
   unfolding takenSince
   since-grant g x = rw x
 
-pub each-append : (test : Option ℕ → Bool) (a b : List Taken) → each test (a ++ b) ≡ (each test a && each test b)
+pub each-append : (test : Option ℕ → Bool) (a b : List Arrival) → each test (a ++ b) ≡ (each test a && each test b)
 each-append test [] b = refl
 each-append test (t ∷ a) b = go (test (t .origin)) (each-append test a b)
   where
@@ -32,21 +32,21 @@ each-append test (t ∷ a) b = go (test (t .origin)) (each-append test a b)
     go true e = e
     go false e = refl
 
-pub each-middle : (test : Option ℕ → Bool) (a b c : List Taken) → each test (a ++ (b ++ c)) ≡ true → each test b ≡ true
+pub each-middle : (test : Option ℕ → Bool) (a b c : List Arrival) → each test (a ++ (b ++ c)) ≡ true → each test b ≡ true
 each-middle test a b c e =
     let x = and-right (each test a) _ (sym (each-append test a (b ++ c)) ∙ e) in
     and-left (each test b) _ (sym (each-append test b c) ∙ x)
 
 -- all bytes taken in are those before the latest 02, and those since
 pub record Before (l : Log) : Type 0 where
-  pub others : List Taken
-  pub whole : taken l ≡ others ++ takenSince l
+  pub others : List Arrival
+  pub whole : arrivals l ≡ others ++ takenSince l
 
 pub taken-before : (l : Log) → Before l
-unfolding taken takenSince
+unfolding arrivals takenSince
 taken-before [] = record { others = []; whole = refl }
 taken-before (e ∷ l) = go (e .seen .requests .granted) refl (taken-before l)
   where
     go : (g : Option Timed) → e .seen .requests .granted ≡ g → Before l → Before (e ∷ l)
-    go (some g) x i = record { others = taken (e ∷ l); whole = rw x (sym (append-nil (taken (e ∷ l)))) }
+    go (some g) x i = record { others = arrivals (e ∷ l); whole = rw x (sym (append-nil (arrivals (e ∷ l)))) }
     go none x i = record { others = i .others; whole = rw (x, i .whole) (append-assoc (i .others) (takenSince l) _) }

@@ -11,7 +11,7 @@ use borrow.Author.Tests.{ltb-true, leb-true}
 use Rattle.base.specs.Choice.{pick}
 use Rattle.base.specs.Maybe.{is}
 use Rattle.booking.specs.History.{Byte}
-use Rattle.attribution.specs.Marks.{Entry, Log}
+use Rattle.attribution.specs.Marks.{LogEntry, Log}
 use Rattle.attribution.specs.Origin.{requests, addByte, sentBy, atRecovery, atOpening}
 use Rattle.attribution.specs.Wiring.{Scope, ofOrigin, noNoise, askedFirst, oneFrame, quietRecovery, quietOpening, Wiring}
 use Rattle.attribution.proofs.Always.{now, before}
@@ -29,11 +29,11 @@ sent-grows k (some j) (some b) bs = go (eqb j k)
     go true = simp length-append (omega arith)
     go false = omega arith
 
-pub requests-keep : (l : Log) (e : Entry) → e .seen .requests .granted ≡ none → requests (e ∷ l) ≡ requests l
+pub requests-keep : (l : Log) (e : LogEntry) → e .seen .requests .granted ≡ none → requests (e ∷ l) ≡ requests l
 unfolding requests
 requests-keep l e g = rw g
 
-module _ (l : Log) (e : Entry) (o : e .seen .opening ≡ none) (r : e .seen .requests .recovered ≡ false) where
+module _ (l : Log) (e : LogEntry) (o : e .seen .opening ≡ none) (r : e .seen .requests .recovered ≡ false) where
   pub spent-keeps : (n : ℕ) → Spent l n → Spent (e ∷ l) n
   unfolding sentBy atRecovery atOpening
   spent-keeps n s k a b c =
@@ -59,7 +59,7 @@ none-left l o m s =
     let b = m .few in
     omega arith
 
-module _ (scope : Scope) (l : Log) (e : Entry) (w : Wiring scope (e ∷ l)) where
+module _ (scope : Scope) (l : Log) (e : LogEntry) (w : Wiring scope (e ∷ l)) where
   pub wiring-before : Wiring scope l
   wiring-before =
       record {

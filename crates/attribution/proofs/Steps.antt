@@ -18,7 +18,7 @@ use Rattle.esc_records.specs.declared.answer.Answer.the-variants as answer
 use Rattle.booking.specs.History.{Opening, Timed, Byte, Seen, Past, seen}
 use Rattle.booking.specs.Wire.{Frame, wire, frameAt, timed}
 use Rattle.booking.specs.Booking.{bookedTo, openRequest, latestFrame, newlyStarted, startedRequest}
-use Rattle.booking.specs.Faults.{faulted, quietSince, retries, expired, recovers}
+use Rattle.booking.specs.Faults.{faulted, quietSince, retries, timeoutFor, recovers}
 use Rattle.booking.specs.Turns.{lastQueued, dueSince, existing, names}
 use Rattle.booking.specs.Rule.{ackAnswer, wireAnswerOf, answerTo}
 use Rattle.attribution.proofs.Both.{and-left, and-right}
@@ -129,7 +129,7 @@ module _ (o : Opening) (h : Past) where
   step (kind.NextRequest now) f = plain (shows _ refl)
   step (kind.MarkRequestQueued q now) f = mark-step q now
   step (kind.ActuatorAck k now) f = ack-step k now _
-  step (kind.PollTimeout now) f = poll-step now (expired o h now)
+  step (kind.PollTimeout now) f = poll-step now (timeoutFor o h now)
   step (kind.WireByte b now) f = byte-step b now _
   step kind.WireDiscontinuity f = plain (shows _ refl)
   step (kind.TryRecover armed now) f = recover-step armed now

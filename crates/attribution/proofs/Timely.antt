@@ -18,11 +18,11 @@ use Rattle.esc_feedback.specs.declared.request.EscTelemetryUpdate.{EscTelemetry
 use Rattle.booking.specs.History.{Opening, Byte, Past, Since}
 use Rattle.booking.specs.Faults.{faulted, quietSince, retries}
 use Rattle.booking.specs.Claims.{pastOf}
-use Rattle.attribution.specs.Marks.{Entry, Log, sinceIn, past}
+use Rattle.attribution.specs.Marks.{LogEntry, Log, sinceIn, past}
 use Rattle.attribution.specs.Origin.{requests, atRecovery, atOpening}
 use Rattle.attribution.specs.Wiring.{always}
 use Rattle.attribution.specs.Clock.{latestT}
-use Rattle.attribution.specs.Times.{stamped, clockAt, byteAt, heardAt, quietTime, quietOf, steadyClock, prompt, waitsFor, patientOpening}
+use Rattle.attribution.specs.Times.{stamped, clockAt, byteAt, lastHeard, quietTime, quietOf, steadyClock, prompt, waitsFor, patientOpening}
 use Rattle.attribution.proofs.Always.{now, before}
 use Rattle.attribution.proofs.LawfulLog.{Lawful}
 use Rattle.attribution.proofs.Steps.{Shows, Step, plain, grants, takes, answers, ends, restarts}
@@ -33,13 +33,13 @@ use Rattle.attribution.proofs.Spent.{requests-keep}
 -- nothing was heard after the quiet start, nor within the quiet time before a recovery or an opening of the requests before it
 pub record Timely (l : Log) (h : Past) (quiet : ℕ) : Type 0 where
   pub granted : earlier l ≤ length (requests l)
-  pub heard : (k : ℕ) → heardAt k l ≤ clockAt l
-  pub waits : faulted h ≡ true → (k : ℕ) → heardAt k l ≤ quietSince h
-  pub rested : faulted h ≡ false → (k : ℕ) → k < earlier l → heardAt k l + quiet ≤ clockAt l
+  pub heard : (k : ℕ) → lastHeard k l ≤ clockAt l
+  pub waits : faulted h ≡ true → (k : ℕ) → lastHeard k l ≤ quietSince h
+  pub rested : faulted h ≡ false → (k : ℕ) → k < earlier l → lastHeard k l + quiet ≤ clockAt l
 
 -- a byte taken in while no fault stands is not of a request that has rested
 module _ (l : Log) (h : Past) (quiet now : ℕ) (i : Timely l h quiet) (f : faulted h ≡ false) (c : clockAt l ≤ now) where
-  pub not-earlier : (k : ℕ) → now < heardAt k l + quiet → earlier l ≤ k
+  pub not-earlier : (k : ℕ) → now < lastHeard k l + quiet → earlier l ≤ k
   not-earlier k p = go (leb (earlier l) k) refl
     where
       go : (t : Bool) → leb (earlier l) k ≡ t → earlier l ≤ k
@@ -48,10 +48,10 @@ module _ (l : Log) (h : Past) (quiet now : ℕ) (i : Timely l h quiet) (f : faul
           let r = i .rested f k (leb-false _ _ t) in
           absurd (omega arith)
 
-module _ (o : Opening) (l : Log) (h : Past) (e : Entry) (i : Timely l h (o .config .«recovery_quiet_ms»))
+module _ (o : Opening) (l : Log) (h : Past) (e : LogEntry) (i : Timely l h (o .config .«recovery_quiet_ms»))
     (clock : stamped (e .seen) ≡ true → clockAt l ≤ e .seen .now)
     (prompts : (b : Byte) → e .seen .wire .byte ≡ some b → faulted h ≡ false
-    → (k : ℕ) → e .origin ≡ some k → e .seen .now < heardAt k l + o .config .«recovery_quiet_ms») where
+    → (k : ℕ) → e .origin ≡ some k → e .seen .now < lastHeard k l + o .config .«recovery_quiet_ms») where
   abbrev quiet : ℕ
   quiet = o .config .«recovery_quiet_ms»
 
@@ -65,7 +65,7 @@ module _ (o : Opening) (l : Log) (h : Past) (e : Entry) (i : Timely l h (o .conf
         rested = λ f k x. rw (same k) (omega (arith, i .rested (sym still ∙ f) k (rw (earlier-keeps l e (s .recovered) (s .opening)) at x), clock-grows l e));
       }
     where
-      same : (k : ℕ) → heardAt k (e ∷ l) ≡ heardAt k l
+      same : (k : ℕ) → lastHeard k (e ∷ l) ≡ lastHeard k l
       same k = heard-keeps l e k (s .granted) (s .byte)
 
       still : faulted (e .seen ∷ h) ≡ faulted h
@@ -86,14 +86,14 @@ module _ (o : Opening) (l : Log) (h : Past) (e : Entry) (i : Timely l h (o .conf
       still : faulted (e .seen ∷ h) ≡ faulted h
       still = fault-keeps h (e .seen) (s .timeout) (s .recovered)
 
-      now-heard : (k : ℕ) → heardAt k (e ∷ l) ≡ pick (eqb (length (requests l)) k) (e .seen .now) (heardAt k l)
+      now-heard : (k : ℕ) → lastHeard k (e ∷ l) ≡ pick (eqb (length (requests l)) k) (e .seen .now) (lastHeard k l)
       now-heard k = heard-grant l e k _ (s .granted) (s .byte)
 
-      heard-by : (k : ℕ) (b : Bool) → pick b (e .seen .now) (heardAt k l) ≤ clockAt (e ∷ l)
+      heard-by : (k : ℕ) (b : Bool) → pick b (e .seen .now) (lastHeard k l) ≤ clockAt (e ∷ l)
       heard-by k true = clock-now l e (stamped-grant (e .seen) _ (s .granted))
       heard-by k false = omega (arith, i .heard k, clock-grows l e)
 
-      rested-by : (k : ℕ) → k < earlier l → heardAt k (e ∷ l) + quiet ≤ clockAt (e ∷ l)
+      rested-by : (k : ℕ) → k < earlier l → lastHeard k (e ∷ l) + quiet ≤ clockAt (e ∷ l)
       rested-by k y =
           let z : eqb (length (requests l)) k ≡ false = ne-eqb (length (requests l)) k (λ w. omega (arith, i .granted, w)) in
           rw (now-heard k, z) (omega (arith, i .rested f k y, clock-grows l e))
@@ -116,36 +116,36 @@ module _ (o : Opening) (l : Log) (h : Past) (e : Entry) (i : Timely l h (o .conf
       still : faulted (e .seen ∷ h) ≡ faulted h
       still = fault-keeps h (e .seen) (s .timeout) (s .recovered)
 
-      now-heard : (k : ℕ) → heardAt k (e ∷ l) ≡ byteAt k (e .origin) (some t) (heardAt k l)
+      now-heard : (k : ℕ) → lastHeard k (e ∷ l) ≡ byteAt k (e .origin) (some t) (lastHeard k l)
       now-heard k = heard-byte l e k t (s .granted) (s .byte)
 
       mark : stamped (e .seen) ≡ true
       mark = stamped-byte (e .seen) t (s .byte)
 
-      heard-by : (k : ℕ) (o : Option ℕ) → byteAt k o (some t) (heardAt k l) ≤ clockAt (e ∷ l)
+      heard-by : (k : ℕ) (o : Option ℕ) → byteAt k o (some t) (lastHeard k l) ≤ clockAt (e ∷ l)
       heard-by k none = omega (arith, i .heard k, clock-grows l e)
       heard-by k (some j) = go (eqb j k)
         where
-          go : (z : Bool) → pick z (e .seen .now) (heardAt k l) ≤ clockAt (e ∷ l)
+          go : (z : Bool) → pick z (e .seen .now) (lastHeard k l) ≤ clockAt (e ∷ l)
           go true = clock-now l e mark
           go false = omega (arith, i .heard k, clock-grows l e)
 
       moved : faulted h ≡ true → quietSince (e .seen ∷ h) ≡ max (quietSince h) (e .seen .now)
       moved f = rw (s .timeout, a, s .byte, f)
 
-      waits-by : (k : ℕ) (o : Option ℕ) → faulted h ≡ true → byteAt k o (some t) (heardAt k l) ≤ quietSince (e .seen ∷ h)
+      waits-by : (k : ℕ) (o : Option ℕ) → faulted h ≡ true → byteAt k o (some t) (lastHeard k l) ≤ quietSince (e .seen ∷ h)
       waits-by k none f = rw (moved f) (omega (arith, i .waits f k))
       waits-by k (some j) f = rw (moved f) (go (eqb j k))
         where
-          go : (z : Bool) → pick z (e .seen .now) (heardAt k l) ≤ max (quietSince h) (e .seen .now)
+          go : (z : Bool) → pick z (e .seen .now) (lastHeard k l) ≤ max (quietSince h) (e .seen .now)
           go true = omega arith
           go false = omega (arith, i .waits f k)
 
-      rested-by : (k : ℕ) (o : Option ℕ) → e .origin ≡ o → faulted h ≡ false → k < earlier l → byteAt k o (some t) (heardAt k l) + quiet ≤ clockAt (e ∷ l)
+      rested-by : (k : ℕ) (o : Option ℕ) → e .origin ≡ o → faulted h ≡ false → k < earlier l → byteAt k o (some t) (lastHeard k l) + quiet ≤ clockAt (e ∷ l)
       rested-by k none x f y = omega (arith, i .rested f k y, clock-grows l e)
       rested-by k (some j) x f y = go (eqb j k) refl
         where
-          go : (z : Bool) → eqb j k ≡ z → pick z (e .seen .now) (heardAt k l) + quiet ≤ clockAt (e ∷ l)
+          go : (z : Bool) → eqb j k ≡ z → pick z (e .seen .now) (lastHeard k l) + quiet ≤ clockAt (e ∷ l)
           go true z =
               let n = not-earlier l h quiet (e .seen .now) i f (clock mark) j (prompts t (s .byte) f j x) in
               absurd (omega (arith, eqb-true j k z))
@@ -162,7 +162,7 @@ module _ (o : Opening) (l : Log) (h : Past) (e : Entry) (i : Timely l h (o .conf
         rested = λ f. absurd (true≢false (rw (s .timeout) at f));
       }
     where
-      same : (k : ℕ) → heardAt k (e ∷ l) ≡ heardAt k l
+      same : (k : ℕ) → lastHeard k (e ∷ l) ≡ lastHeard k l
       same k = heard-keeps l e k (s .granted) (s .byte)
 
       begins : quietSince (e .seen ∷ h) ≡ e .seen .now
@@ -183,7 +183,7 @@ module _ (o : Opening) (l : Log) (h : Past) (e : Entry) (i : Timely l h (o .conf
       now-earlier : earlier (e ∷ l) ≡ max (length (requests l)) (atOpening l)
       now-earlier = rw (s .recovered, s .opening)
 
-      same : (k : ℕ) → heardAt k (e ∷ l) ≡ heardAt k l
+      same : (k : ℕ) → lastHeard k (e ∷ l) ≡ lastHeard k l
       same k = heard-keeps l e k (s .granted) (s .byte)
 
       at-least : quiet ≤ quiet * 2 ^ min (retries h) 3
@@ -192,7 +192,7 @@ module _ (o : Opening) (l : Log) (h : Past) (e : Entry) (i : Timely l h (o .conf
       now-in : e .seen .now ≤ clockAt (e ∷ l)
       now-in = clock-now l e (stamped-recovery (e .seen) (s .recovered))
 
-      rested-by : (k q : ℕ) → quiet ≡ q → heardAt k l + quiet ≤ clockAt (e ∷ l)
+      rested-by : (k q : ℕ) → quiet ≡ q → lastHeard k l + quiet ≤ clockAt (e ∷ l)
       rested-by k zero z = omega (arith, i .heard k, clock-grows l e, z)
       rested-by k (suc q) z = omega (arith, i .waits f k, at-least, w, now-in, z)
 
@@ -211,7 +211,7 @@ TimelySince l s = Timely l (pastOf s) (quietOf s)
 timely-new : (l : Log) (s : Option Since) → TimelySince l s → (c : EscManagerConfig) (t : ℕ) (o : Option ℕ)
     → waitsFor l (some (record { config = c; boot = t })) ≡ true
     → Timely (openingOf c t o ∷ l) [] (c .«recovery_quiet_ms»)
-unfolding faulted requests atRecovery atOpening heardAt latestT
+unfolding faulted requests atRecovery atOpening lastHeard latestT
 timely-new l s i c t o w =
     record {
       granted = omega (arith, i .granted);
@@ -221,7 +221,7 @@ timely-new l s i c t o w =
     }
   where
     rested-by : (k : ℕ) → k < length (requests l) → (b : Bool) → eqb (length (requests l)) 0 ≡ b → (b || leb (clockAt l + c .«recovery_quiet_ms») t) ≡ true
-        → heardAt k l + c .«recovery_quiet_ms» ≤ max (clockAt l) t
+        → lastHeard k l + c .«recovery_quiet_ms» ≤ max (clockAt l) t
     rested-by k x true b y = absurd (omega (arith, eqb-true (length (requests l)) 0 b))
     rested-by k x false b y = omega (arith, i .heard k, leb-true (clockAt l + c .«recovery_quiet_ms») t y)
 
@@ -231,7 +231,7 @@ pub record Times (l : Log) : Type 0 where
   pub prompts : always prompt l ≡ true
   pub reopening : always patientOpening l ≡ true
 
-module _ (l : Log) (e : Entry) (t : Times (e ∷ l)) where
+module _ (l : Log) (e : LogEntry) (t : Times (e ∷ l)) where
   pub times-before : Times l
   times-before =
       record {
@@ -244,14 +244,14 @@ module _ (l : Log) (e : Entry) (t : Times (e ∷ l)) where
   clock-holds m = leb-true _ _ (rw m at (now steadyClock l e (t .clock)))
 
   pub answer-now : (b : Byte) → e .seen .wire .byte ≡ some b → faulted (past l) ≡ false
-      → (k : ℕ) → e .origin ≡ some k → e .seen .now < heardAt k l + quietTime l
+      → (k : ℕ) → e .origin ≡ some k → e .seen .now < lastHeard k l + quietTime l
   answer-now b x f k o = ltb-true _ _ (rw (x, f, o) at (now prompt l e (t .prompts)))
 
   wait-now : waitsFor l (e .seen .opening) ≡ true
   wait-now = now patientOpening l e (t .reopening)
 
 timely-start : Timely [] [] 0
-unfolding faulted requests atRecovery atOpening heardAt latestT
+unfolding faulted requests atRecovery atOpening lastHeard latestT
 timely-start = record { granted = omega arith; heard = λ k. omega arith; waits = λ x. absurd (false≢true x); rested = λ f k x. absurd (omega arith) }
 
 pub timely : (l : Log) → Lawful l → Times l → TimelySince l (sinceIn l)

@@ -18,7 +18,7 @@ use Rattle.esc_records.specs.declared.record.Record.the-variants as kind
 use Rattle.esc_records.specs.declared.answer.Answer.{Answer}
 use Rattle.esc_unit.specs.declared.unit.Unit.{Unit}
 use Rattle.booking.specs.History.{Seen, seen}
-use Rattle.attribution.specs.Marks.{Marked, MarkedHistory, feedMarked, runMarked, Entry, Log, entered, logOf, logAfter}
+use Rattle.attribution.specs.Marks.{Marked, MarkedHistory, feedMarked, runMarked, LogEntry, Log, logged, logOf, logAfter}
 use Rattle.attribution.specs.Clock.{latestT}
 use Rattle.attribution.specs.NeverAnotherArm.{areBytes, ofBytes}
 use Rattle.attribution.proofs.Both.{and-left, and-right}
@@ -59,7 +59,7 @@ module _ (kinds : Seen → Bool) where
   abbrev Wide : Log → Type 0
   Wide l = latestT kinds l < 2 ^ 64
 
-  wide-entry : (l : Log) (e : Entry) → e .seen .now < 2 ^ 64 → Wide l → Wide (e ∷ l)
+  wide-entry : (l : Log) (e : LogEntry) → e .seen .now < 2 ^ 64 → Wide l → Wide (e ∷ l)
   unfolding latestT
   wide-entry l e t w = go (kinds (e .seen))
     where
@@ -67,16 +67,16 @@ module _ (kinds : Seen → Bool) where
       go true = omega arith
       go false = omega arith
 
-  wide-read : (s : List ℕ) → areBytes s ≡ true → (y : Reply Answer) (o : Option ℕ) (l : Log) → Wide l → Wide (entered (readRecord s) y o l)
+  wide-read : (s : List ℕ) → areBytes s ≡ true → (y : Reply Answer) (o : Option ℕ) (l : Log) → Wide l → Wide (logged (readRecord s) y o l)
   unfolding readRecord
   wide-read s b y o l w = go (knownKind s) (eqb (length s) (widthOf (getD s 0 0))) (laneFits s) (flagFits s)
     where
-      answered : (y : Reply Answer) → Wide (entered (accepted (recordOf s)) y o l)
+      answered : (y : Reply Answer) → Wide (logged (accepted (recordOf s)) y o l)
       answered (refused n) = w
       answered (accepted a) = wide-entry l (record { seen = seen (recordOf s) a; origin = o }) (record-fits a s b) w
 
       go : (known long lane flag : Bool)
-          → Wide (entered (pick known (pick long (pick lane (pick flag (accepted (recordOf s)) (refused 7)) (refused 6)) (refused 5)) (refused 4)) y o l)
+          → Wide (logged (pick known (pick long (pick lane (pick flag (accepted (recordOf s)) (refused 7)) (refused 6)) (refused 5)) (refused 4)) y o l)
       go true true true true = answered y
       go true true true false = w
       go true true false flag = w

@@ -10,8 +10,8 @@ use Rattle.booking.specs.History.{Opening, Timed, Byte, Past, Since}
 use Rattle.booking.specs.Wire.{OnWire, Frame, wire, latest, frameAt}
 use Rattle.booking.specs.Booking.{latestFrame}
 use Rattle.booking.specs.Claims.{pastOf}
-use Rattle.attribution.specs.Marks.{Entry, Log, past}
-use Rattle.attribution.specs.Origin.{Taken}
+use Rattle.attribution.specs.Marks.{LogEntry, Log, past}
+use Rattle.attribution.specs.Origin.{Arrival}
 use Rattle.attribution.specs.Since.{takenSince, valuesOf, Ten, all, Run}
 use Rattle.attribution.proofs.LawfulLog.{Lawful}
 use Rattle.attribution.proofs.Steps.{Step, plain, grants, takes, answers, ends, restarts}
@@ -26,36 +26,36 @@ CleanGrants [] = Unit {0}
 CleanGrants (e ∷ l) = ((g : Timed) → e .seen .requests .granted ≡ some g → Clean (wire (past l))) × CleanGrants l
 
 -- the last bytes taken in have these values
-record EndsWith (ts : List Taken) (bs : List ℕ) : Type 0 where
-  last : List Taken
+record EndsWith (ts : List Arrival) (bs : List ℕ) : Type 0 where
+  last : List Arrival
   same : valuesOf last ≡ bs
-  before : List Taken
+  before : List Arrival
   place : ts ≡ before ++ last
 
 -- a frame was read from ten of the bytes
-pub record ReadFrom (ts : List Taken) (f : Frame) : Type 0 where
+pub record ReadFrom (ts : List Arrival) (f : Frame) : Type 0 where
   pub ten : Ten
   pub run : Run (all ten) ts
   pub bytes : f .bytes ≡ valuesOf (all ten)
   pub when : ten .check .byte .at ≡ f .at
 
-pub record Within (ts : List Taken) (h : Past) : Type 0 where
+pub record Within (ts : List Arrival) (h : Past) : Type 0 where
   holds : (n : ℕ) (bs : List ℕ) → latest (wire h) n ≡ some bs → EndsWith ts bs
   pub frame : (f : Frame) → latestFrame h ≡ some f → ReadFrom ts f
 
-no-bytes : (ts : List Taken) (w : List OnWire) (bs : List ℕ) → latest w 0 ≡ some bs → EndsWith ts bs
+no-bytes : (ts : List Arrival) (w : List OnWire) (bs : List ℕ) → latest w 0 ≡ some bs → EndsWith ts bs
 no-bytes ts w bs e = record { last = []; same = Option·some-injective _ _ (sym (latest-none w) ∙ e); before = ts; place = sym (append-nil ts) }
 
 -- a clean wire holds nothing
-holds-nothing : (ts : List Taken) (w : List OnWire) → Clean w → (n : ℕ) (bs : List ℕ) → latest w n ≡ some bs → EndsWith ts bs
+holds-nothing : (ts : List Arrival) (w : List OnWire) → Clean w → (n : ℕ) (bs : List ℕ) → latest w n ≡ some bs → EndsWith ts bs
 holds-nothing ts w c zero bs e = no-bytes ts w bs e
 holds-nothing ts w c (suc n) bs e = absurd (Option·none-ne-some bs (sym (clean-more w n c) ∙ e))
 
-pub within-nothing : (ts : List Taken) → Within ts []
+pub within-nothing : (ts : List Arrival) → Within ts []
 unfolding wire latest latestFrame
 within-nothing ts = record { holds = holds-nothing ts [] refl; frame = λ f x. absurd (Option·none-ne-some f x) }
 
-module _ (o : Opening) (l : Log) (h : Past) (e : Entry) (i : Within (takenSince l) h) where
+module _ (o : Opening) (l : Log) (h : Past) (e : LogEntry) (i : Within (takenSince l) h) where
   -- a grant: no byte came in since
   grant-within : (g : Timed) → e .seen .requests .granted ≡ some g → Clean (wire (e .seen ∷ h)) → Within (takenSince (e ∷ l)) (e .seen ∷ h)
   grant-within g x c =
@@ -72,13 +72,13 @@ module _ (o : Opening) (l : Log) (h : Past) (e : Entry) (i : Within (takenSince 
 
     -- one byte more
     module _ (b : Byte) (x : e .seen .wire .byte ≡ some b) where
-      abbrev t : Taken
+      abbrev t : Arrival
       t = record { byte = b; origin = e .origin }
 
-      abbrev ts : List Taken
+      abbrev ts : List Arrival
       ts = takenSince l ++ t ∷ []
 
-      values-more : (s : List Taken) → valuesOf (s ++ t ∷ []) ≡ valuesOf s ++ b .value ∷ []
+      values-more : (s : List Arrival) → valuesOf (s ++ t ∷ []) ≡ valuesOf s ++ b .value ∷ []
       values-more s = map-append _ s (t ∷ [])
 
       holds-more : (n : ℕ) (bs : List ℕ) → latest (wire (e .seen ∷ h)) n ≡ some bs → EndsWith ts bs

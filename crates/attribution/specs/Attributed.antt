@@ -10,9 +10,9 @@ use Rattle.esc_feedback.specs.declared.request.EscTelemetryUpdate.{EscTelemetry
 use Rattle.booking.specs.History.{Byte}
 use Rattle.booking.specs.Run.{run}
 use Rattle.attribution.specs.Marks.{Marked, callsOf, eventsOf, runMarked, Log}
-use Rattle.attribution.specs.Origin.{requests, sentBy, Taken, taken, sentAs}
+use Rattle.attribution.specs.Origin.{requests, sentBy, Arrival, arrivals, sentAs}
 use Rattle.attribution.specs.EachSample.{bookedOn, OfEachSample}
-use Rattle.attribution.specs.Wiring.{noFault, Wiring}
+use Rattle.attribution.specs.Wiring.{whileNoFault, Wiring}
 use Rattle.attribution.specs.Times.{Timing}
 use Rattle.attribution.specs.Cutting.{Cutting}
 
@@ -30,8 +30,8 @@ pub record SentFrame (l : Log) (k : ℕ) : Type 0 where
   pub count : length nine ≡ 9
   pub checks : check .value ≡ crcOf (values nine)
   pub sent : sentBy k l ≡ nine ++ check ∷ []
-  pub others : List Taken
-  pub newest : taken l ≡ others ++ sentAs k (nine ++ check ∷ [])
+  pub others : List Arrival
+  pub newest : arrivals l ≡ others ++ sentAs k (nine ++ check ∷ [])
 
 -- the request that the sample is booked to is the latest granted, and all that this request made an ESC send, as far as it came in, is
 -- the sample's nine bytes and their check byte, the last at the sample's time
@@ -48,7 +48,7 @@ AttributedIf Assumed = (ms : List Marked) → OfEachSample Assumed CameFrom ms
 
 -- with the five assumptions, of bytes taken in while no fault stands
 abbrev pub Attributed : Type 0
-Attributed = AttributedIf (Wiring noFault)
+Attributed = AttributedIf (Wiring whileNoFault)
 
 -- with times in place of the two on quiet
 abbrev pub AttributedByTimes : Type 0

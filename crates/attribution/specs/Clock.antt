@@ -9,7 +9,7 @@ use Rattle.base.specs.Choice.{pick}
 use Rattle.booking.specs.History.{Timed, Seen}
 use Rattle.attribution.specs.Marks.{Log}
 use Rattle.attribution.specs.Origin.{requests}
-use Rattle.attribution.specs.Wiring.{Test}
+use Rattle.attribution.specs.Wiring.{EntryTest}
 
 -- the latest T of the records of some kinds
 unfoldable pub latestT : (Seen → Bool) → Log → ℕ
@@ -17,7 +17,7 @@ latestT kinds [] = 0
 latestT kinds (e ∷ l) = pick (kinds (e .seen)) (max (latestT kinds l) (e .seen .now)) (latestT kinds l)
 
 -- their Ts do not fall along the list
-abbrev pub steady : (Seen → Bool) → Test
+abbrev pub steady : (Seen → Bool) → EntryTest
 steady kinds l e = not (kinds (e .seen)) || leb (latestT kinds l) (e .seen .now)
 
 abbrev pub grantAt : ℕ → ℕ → Option Timed → ℕ → ℕ

@@ -45,23 +45,23 @@ unfoldable pub runMarked : List Marked → MarkedHistory
 runMarked ms = feedMarked neverOpened [] ms
 
 -- what an accepted record and its answer show, and the record's mark
-pub record Entry : Type 0 where
+pub record LogEntry : Type 0 where
   pub seen : Seen
   pub origin : Option ℕ
 
 -- newest first, over all openings
 abbrev pub Log : Type 0
-Log = List Entry
+Log = List LogEntry
 
 -- refused records are passed over
-abbrev pub entered : Reply Record → Reply Answer → Option ℕ → Log → Log
-entered (refused n) a o l = l
-entered (accepted r) (refused n) o l = l
-entered (accepted r) (accepted a) o l = record { seen = seen r a; origin = o } ∷ l
+abbrev pub logged : Reply Record → Reply Answer → Option ℕ → Log → Log
+logged (refused n) a o l = l
+logged (accepted r) (refused n) o l = l
+logged (accepted r) (accepted a) o l = record { seen = seen r a; origin = o } ∷ l
 
 unfoldable pub logOf : MarkedHistory → Log
 logOf [] = []
-logOf (e ∷ h) = entered (readRecord (e .event .call .bytes)) (e .event .reply) (e .origin) (logOf h)
+logOf (e ∷ h) = logged (readRecord (e .event .call .bytes)) (e .event .reply) (e .origin) (logOf h)
 
 abbrev pub logAfter : List Marked → Log
 logAfter ms = logOf (runMarked ms)

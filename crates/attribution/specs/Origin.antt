@@ -30,21 +30,21 @@ sentBy k [] = []
 sentBy k (e ∷ l) = addByte k (e .origin) (e .seen .wire .byte) (sentBy k l)
 
 -- a byte taken in, and its origin
-pub record Taken : Type 0 where
+pub record Arrival : Type 0 where
   pub byte : Byte
   pub origin : Option ℕ
 
-abbrev pub takenIn : Option ℕ → Option Byte → List Taken
-takenIn origin none = []
-takenIn origin (some b) = record { byte = b; origin = origin } ∷ []
+abbrev pub arrivalIn : Option ℕ → Option Byte → List Arrival
+arrivalIn origin none = []
+arrivalIn origin (some b) = record { byte = b; origin = origin } ∷ []
 
 -- all bytes taken in, oldest first
-unfoldable pub taken : Log → List Taken
-taken [] = []
-taken (e ∷ l) = taken l ++ takenIn (e .origin) (e .seen .wire .byte)
+unfoldable pub arrivals : Log → List Arrival
+arrivals [] = []
+arrivals (e ∷ l) = arrivals l ++ arrivalIn (e .origin) (e .seen .wire .byte)
 
 -- bytes as request k made an ESC send them
-abbrev pub sentAs : ℕ → List Byte → List Taken
+abbrev pub sentAs : ℕ → List Byte → List Arrival
 sentAs k bs = map (λ (b : Byte). record { byte = b; origin = some k }) bs
 
 -- how many requests had been granted at the latest 07 answered yes

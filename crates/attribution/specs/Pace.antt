@@ -9,12 +9,12 @@ use Rattle.base.specs.Maybe.{is}
 use Rattle.booking.specs.History.{Opening, Seen}
 use Rattle.attribution.specs.Marks.{Log}
 use Rattle.attribution.specs.Origin.{requests}
-use Rattle.attribution.specs.Wiring.{Test, always, ofOrigin}
+use Rattle.attribution.specs.Wiring.{EntryTest, always, ofOrigin}
 use Rattle.attribution.specs.Clock.{steady, queuedAt}
 use Rattle.attribution.specs.Cutting.{cutFirst}
 
 -- asked, and done in time: a byte with origin k comes in after request k was granted, and at a T less than P above the T of its 02
-abbrev pub askedAndDoneInTime : ℕ → Test
+abbrev pub askedAndDoneInTime : ℕ → EntryTest
 askedAndDoneInTime P l e =
     not (is (e .seen .wire .byte)) || ofOrigin (λ k. ltb k (length (requests l)) && ltb (e .seen .now) (queuedAt k l + P)) (e .origin)
 
@@ -23,7 +23,7 @@ abbrev pub ticks : Seen → Bool
 ticks s = is (s .opening) || (is (s .requests .granted) || is (s .wire .byte))
 
 -- one clock: the Ts of these do not fall along the list
-abbrev pub oneClock : Test
+abbrev pub oneClock : EntryTest
 oneClock l e = steady ticks l e
 
 abbrev pub spacious : ℕ → Option Opening → Bool
@@ -31,11 +31,11 @@ spacious P none = true
 spacious P (some o) = leb P (o .config .«boot_delay_ms») && leb P (o .config .«request_period_ms»)
 
 -- settings: in each accepted 00 the boot delay and the period are at least P
-abbrev pub settings : ℕ → Test
+abbrev pub settings : ℕ → EntryTest
 settings P l e = spacious P (e .seen .opening)
 
 -- a cut: when a 02 is granted, no byte came in since the latest cut or opening
-abbrev pub aCut : Test
+abbrev pub aCut : EntryTest
 aCut l e = cutFirst l e
 
 pub record Pace (P : ℕ) (l : Log) : Type 0 where

@@ -9,33 +9,33 @@ use Rattle.base.specs.Choice.{pick}
 use Rattle.blheli_telemetry.specs.Crc.{crcOf}
 use Rattle.base.specs.Maybe.{is}
 use Rattle.attribution.specs.Marks.{Log}
-use Rattle.attribution.specs.Origin.{Taken, takenIn}
+use Rattle.attribution.specs.Origin.{Arrival, arrivalIn}
 
 -- oldest first; all bytes, where no 02 was answered yes
-unfoldable pub takenSince : Log → List Taken
+unfoldable pub takenSince : Log → List Arrival
 takenSince [] = []
-takenSince (e ∷ l) = pick (is (e .seen .requests .granted)) [] (takenSince l ++ takenIn (e .origin) (e .seen .wire .byte))
+takenSince (e ∷ l) = pick (is (e .seen .requests .granted)) [] (takenSince l ++ arrivalIn (e .origin) (e .seen .wire .byte))
 
-abbrev pub valuesOf : List Taken → List ℕ
-valuesOf ts = map (λ (t : Taken). t .byte .value) ts
+abbrev pub valuesOf : List Arrival → List ℕ
+valuesOf ts = map (λ (t : Arrival). t .byte .value) ts
 
 -- the origin of each of them passes a test
-abbrev pub each : (Option ℕ → Bool) → List Taken → Bool
+abbrev pub each : (Option ℕ → Bool) → List Arrival → Bool
 each test [] = true
 each test (t ∷ ts) = test (t .origin) && each test ts
 
 -- nine bytes and their check byte
 pub record Ten : Type 0 where
-  pub nine : List Taken
-  pub check : Taken
+  pub nine : List Arrival
+  pub check : Arrival
   pub count : length nine ≡ 9
   pub checks : check .byte .value ≡ crcOf (valuesOf nine)
 
-abbrev pub all : Ten → List Taken
+abbrev pub all : Ten → List Arrival
 all t = t .nine ++ t .check ∷ []
 
 -- some bytes stand among others one after another, with none between them
-pub record Run (part whole : List Taken) : Type 0 where
-  pub before : List Taken
-  pub after : List Taken
+pub record Run (part whole : List Arrival) : Type 0 where
+  pub before : List Arrival
+  pub after : List Arrival
   pub place : whole ≡ before ++ (part ++ after)

@@ -11,7 +11,7 @@ use Rattle.base.specs.Maybe.{is}
 use Rattle.booking.specs.History.{Opening, Byte, Seen, Since}
 use Rattle.attribution.specs.Marks.{Log, sinceIn}
 use Rattle.attribution.specs.Origin.{requests}
-use Rattle.attribution.specs.Wiring.{Test, always, noFault, ofOrigin, ofEachByte, noNoise, askedFirst, oneFrame}
+use Rattle.attribution.specs.Wiring.{EntryTest, always, whileNoFault, ofOrigin, ofEachByte, noNoise, askedFirst, oneFrame}
 use Rattle.attribution.specs.Clock.{latestT, steady, grantAt}
 
 -- a 00, a 02 answered yes, a 05, a 04 answered with a timeout, a 07 answered yes
@@ -28,9 +28,9 @@ byteAt k none (some b) t = t
 byteAt k (some j) (some b) t = pick (eqb j k) (b .at) t
 
 -- the T at which request k was granted, or that of the latest byte that it made an ESC send
-unfoldable pub heardAt : ℕ → Log → ℕ
-heardAt k [] = 0
-heardAt k (e ∷ l) = byteAt k (e .origin) (e .seen .wire .byte) (grantAt k (length (requests l)) (e .seen .requests .granted) (heardAt k l))
+unfoldable pub lastHeard : ℕ → Log → ℕ
+lastHeard k [] = 0
+lastHeard k (e ∷ l) = byteAt k (e .origin) (e .seen .wire .byte) (grantAt k (length (requests l)) (e .seen .requests .granted) (lastHeard k l))
 
 abbrev pub quietOf : Option Since → ℕ
 quietOf none = 0
@@ -41,26 +41,26 @@ abbrev pub quietTime : Log → ℕ
 quietTime l = quietOf (sinceIn l)
 
 -- a clock that does not run back, by the T of these
-abbrev pub steadyClock : Test
+abbrev pub steadyClock : EntryTest
 steadyClock l e = steady stamped l e
 
 -- an answer within the quiet time: a byte comes less than the quiet time after its request was granted, or after that request's byte
 -- before it
-abbrev pub prompt : Test
-prompt l e = ofEachByte noFault (ofOrigin (λ k. ltb (e .seen .now) (heardAt k l + quietTime l))) l e
+abbrev pub prompt : EntryTest
+prompt l e = ofEachByte whileNoFault (ofOrigin (λ k. ltb (e .seen .now) (lastHeard k l + quietTime l))) l e
 
 abbrev pub waitsFor : Log → Option Opening → Bool
 waitsFor l none = true
 waitsFor l (some o) = eqb (length (requests l)) 0 || leb (clockAt l + o .config .«recovery_quiet_ms») (o .boot)
 
 -- a reopening that waits it out: once a request was granted, a 00 comes no sooner than its own quiet time after the latest T of these
-abbrev pub patientOpening : Test
+abbrev pub patientOpening : EntryTest
 patientOpening l e = waitsFor l (e .seen .opening)
 
 pub record Timing (l : Log) : Type 0 where
-  pub e1 : always (noNoise noFault) l ≡ true
-  pub e2 : always (askedFirst noFault) l ≡ true
-  pub e3 : always (oneFrame noFault) l ≡ true
+  pub e1 : always (noNoise whileNoFault) l ≡ true
+  pub e2 : always (askedFirst whileNoFault) l ≡ true
+  pub e3 : always (oneFrame whileNoFault) l ≡ true
   pub clock : always steadyClock l ≡ true
   pub answer : always prompt l ≡ true
   pub reopening : always patientOpening l ≡ true

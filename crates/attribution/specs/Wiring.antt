@@ -8,14 +8,14 @@ use lib.Dec.{leb, ltb}
 use lib.ListN.{length}
 use Rattle.base.specs.Maybe.{is}
 use Rattle.booking.specs.Faults.{faulted}
-use Rattle.attribution.specs.Marks.{Entry, Log, past}
+use Rattle.attribution.specs.Marks.{LogEntry, Log, past}
 use Rattle.attribution.specs.Origin.{requests, sentBy, atRecovery, atOpening}
 
 -- a test on an entry, given the log before it
-abbrev pub Test : Type 0
-Test = Log → Entry → Bool
+abbrev pub EntryTest : Type 0
+EntryTest = Log → LogEntry → Bool
 
-unfoldable pub always : Test → Log → Bool
+unfoldable pub always : EntryTest → Log → Bool
 always t [] = true
 always t (e ∷ l) = t l e && always t l
 
@@ -24,34 +24,34 @@ abbrev pub Scope : Type 0
 Scope = Log → Bool
 
 -- while no fault stands
-abbrev pub noFault : Scope
-noFault l = not (faulted (past l))
+abbrev pub whileNoFault : Scope
+whileNoFault l = not (faulted (past l))
 
 abbrev pub ofOrigin : (ℕ → Bool) → Option ℕ → Bool
 ofOrigin test none = true
 ofOrigin test (some k) = test k
 
-abbrev pub ofEachByte : Scope → (Option ℕ → Bool) → Test
+abbrev pub ofEachByte : Scope → (Option ℕ → Bool) → EntryTest
 ofEachByte scope test l e = not (is (e .seen .wire .byte) && scope l) || test (e .origin)
 
 -- E1, no noise: a byte has an origin
-abbrev pub noNoise : Scope → Test
+abbrev pub noNoise : Scope → EntryTest
 noNoise scope l e = ofEachByte scope is l e
 
 -- E2, asked first: its origin was granted before it
-abbrev pub askedFirst : Scope → Test
+abbrev pub askedFirst : Scope → EntryTest
 askedFirst scope l e = ofEachByte scope (ofOrigin (λ k. ltb k (length (requests l)))) l e
 
 -- E3, one frame: at most ten bytes have one origin
-abbrev pub oneFrame : Scope → Test
+abbrev pub oneFrame : Scope → EntryTest
 oneFrame scope l e = ofEachByte scope (ofOrigin (λ k. ltb (length (sentBy k l)) 10)) l e
 
 -- E4, quiet at a recovery: after a 07 answered yes no byte of an earlier request comes
-abbrev pub quietRecovery : Scope → Test
+abbrev pub quietRecovery : Scope → EntryTest
 quietRecovery scope l e = ofEachByte scope (ofOrigin (λ k. leb (atRecovery l) k)) l e
 
 -- E5, quiet at an opening: after a 00 no byte of an earlier request comes
-abbrev pub quietOpening : Scope → Test
+abbrev pub quietOpening : Scope → EntryTest
 quietOpening scope l e = ofEachByte scope (ofOrigin (λ k. leb (atOpening l) k)) l e
 
 pub record Wiring (scope : Scope) (l : Log) : Type 0 where

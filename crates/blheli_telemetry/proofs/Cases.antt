@@ -8,7 +8,7 @@ use Rattle.base.specs.Reply.{accepted}
 use Rattle.base.specs.BigEndian.{numberAt, bytesOf}
 use Rattle.blheli_telemetry.specs.Crc.{crcBit, crcBits, crcByte, crcFrom, crcOf}
 use Rattle.blheli_telemetry.specs.Frame.{telemetryOf, payloadOf, frameOf, readFrame}
-use Rattle.blheli_telemetry.specs.Stream.{givenAfter, heldAfter, framed}
+use Rattle.blheli_telemetry.specs.Stream.{givenAfter, heldAfter, parsedFrom}
 use Rattle.blheli_telemetry.specs.declared.frame.EscTelemetry.{EscTelemetry}
 use Rattle.blheli_telemetry.specs.declared.parser.Parsed.the-variants.{Sample, Nothing}
 
@@ -43,15 +43,15 @@ pub record FrameCases : Type 0 where
   pub crc-80 : crcOf (0x80 ∷ []) ≡ 0x89
   pub crc-digits : crcOf (0x31 ∷ 0x32 ∷ 0x33 ∷ 0x34 ∷ 0x35 ∷ 0x36 ∷ 0x37 ∷ 0x38 ∷ 0x39 ∷ []) ≡ 0xf4
   -- from empty: ten 00 are a frame; eight 00, 1e, 5a give eRPM/100 30; with 5b no frame
-  pub ten-zeros : framed [] (replicate 10 0x00) ≡ replicate 9 Nothing ++ Sample (turning 0) ∷ []
-  pub erpm-30 : framed [] (replicate 8 0x00 ++ 0x1e ∷ 0x5a ∷ []) ≡ replicate 9 Nothing ++ Sample (turning 30) ∷ []
-  pub bad-check : framed [] (replicate 8 0x00 ++ 0x1e ∷ 0x5b ∷ []) ≡ replicate 10 Nothing
+  pub ten-zeros : parsedFrom [] (replicate 10 0x00) ≡ replicate 9 Nothing ++ Sample (turning 0) ∷ []
+  pub erpm-30 : parsedFrom [] (replicate 8 0x00 ++ 0x1e ∷ 0x5a ∷ []) ≡ replicate 9 Nothing ++ Sample (turning 30) ∷ []
+  pub bad-check : parsedFrom [] (replicate 8 0x00 ++ 0x1e ∷ 0x5b ∷ []) ≡ replicate 10 Nothing
   -- ten bytes: temperature; then voltage, current, consumption, eRPM divided by 100, each 16 bits; then CRC-8 of the nine
   pub layout-read : readFrame tenBytes ≡ accepted fiveFields
   pub layout-written : frameOf fiveFields ≡ tenBytes
 
 pub frame-cases : FrameCases
-unfolding crcBit crcBits crcByte crcFrom crcOf numberAt bytesOf telemetryOf payloadOf frameOf readFrame givenAfter heldAfter framed
+unfolding crcBit crcBits crcByte crcFrom crcOf numberAt bytesOf telemetryOf payloadOf frameOf readFrame givenAfter heldAfter parsedFrom
 frame-cases =
     record {
       crc-nothing = refl;

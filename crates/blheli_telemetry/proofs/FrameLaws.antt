@@ -11,7 +11,7 @@ use Rattle.base.specs.Choice.{pick}
 use Rattle.base.specs.Reply.{accepted, refused, isAccepted}
 use Rattle.base.specs.BigEndian.{bytesOf, overwrite}
 use Rattle.blheli_telemetry.specs.Crc.{crcOf}
-use Rattle.blheli_telemetry.specs.Frame.{telemetryOf, payloadOf, frameOf, readFrame, writeReply, written}
+use Rattle.blheli_telemetry.specs.Frame.{telemetryOf, payloadOf, frameOf, readFrame, frameReply, frameWritten}
 use Rattle.blheli_telemetry.specs.declared.frame.EscTelemetry.{EscTelemetry}
 use Rattle.base.proofs.BigEndianLaws.{bytes-one, overwrite-front, overwrite-set, overwrite-append, overwrite-length}
 
@@ -68,22 +68,22 @@ payload-built t out room byte =
     )
     (overwrite-append 0 7 (((a ++ b) ++ d) ++ e) (bytesOf 2 (t .«erpm_div100»)) out refl (omega arith))
 
-pub short-reply : (out : List ℕ) → length out < 10 → writeReply out ≡ refused 9
-unfolding writeReply
+pub short-reply : (out : List ℕ) → length out < 10 → frameReply out ≡ refused 9
+unfolding frameReply
 short-reply out h = rw (lt-leb _ _ h)
 
-pub short-kept : (t : EscTelemetry) (out : List ℕ) → length out < 10 → written t out ≡ out
-unfolding written
+pub short-kept : (t : EscTelemetry) (out : List ℕ) → length out < 10 → frameWritten t out ≡ out
+unfolding frameWritten
 short-kept t out h = rw (lt-leb _ _ h)
 
 module _ (t : EscTelemetry) (out : List ℕ) (room : 10 ≤ length out) where
-  pub room-reply : writeReply out ≡ accepted tt
-  unfolding writeReply
+  pub room-reply : frameReply out ≡ accepted tt
+  unfolding frameReply
   room-reply = rw (le-leb _ _ room)
 
   -- the check byte after the payload makes the frame
-  pub room-written : set (overwrite 0 (payloadOf t) out) 9 (crcOf (payloadOf t)) ≡ written t out
-  unfolding written frameOf
+  pub room-written : set (overwrite 0 (payloadOf t) out) 9 (crcOf (payloadOf t)) ≡ frameWritten t out
+  unfolding frameWritten frameOf
   room-written =
       let n : length (payloadOf t) ≡ 9 = payload-length t in
       let at : 9 < length (overwrite 0 (payloadOf t) out) = rw (overwrite-length 0 (payloadOf t) out (omega arith)) (omega arith) in

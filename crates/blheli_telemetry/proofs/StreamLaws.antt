@@ -10,7 +10,7 @@ use Rattle.base.specs.Reply.{Reply, accepted, refused}
 use Rattle.blheli_telemetry.specs.Crc.{crcOf}
 use Rattle.blheli_telemetry.specs.Frame.{telemetryOf, readFrame}
 use Rattle.blheli_telemetry.specs.Parser.{countedGood, countedBad, shiftedDown, completed, pushOf, newParser, resetOf}
-use Rattle.blheli_telemetry.specs.Stream.{held, given, kept, counted, givenAfter, heldAfter, countedAfter, framed, parsedBy}
+use Rattle.blheli_telemetry.specs.Stream.{held, sampleGiven, heldOn, tallied, givenAfter, heldAfter, countedAfter, parsedFrom, parsedBy}
 use Rattle.blheli_telemetry.specs.declared.frame.EscTelemetry.{EscTelemetry}
 use Rattle.blheli_telemetry.specs.declared.parser.ParserStats.{ParserStats}
 use Rattle.blheli_telemetry.specs.declared.parser.Parsed.{Parsed}
@@ -35,15 +35,15 @@ shifted-front f l =
     let m : length (drop 1 f) ≤ 9 = omega arith in
     ap (λ (r : List ℕ). take 9 (r ++ drop 9 f)) (take-all 9 (drop 1 f) m) ∙ take-at (drop 1 f) (drop 9 f) 9 n
 
-completed-held : (f : List ℕ) (s : ParserStats) (r : Reply EscTelemetry) → length f ≡ 10 → held (completed f s r .parser) ≡ kept f r
+completed-held : (f : List ℕ) (s : ParserStats) (r : Reply EscTelemetry) → length f ≡ 10 → held (completed f s r .parser) ≡ heldOn f r
 completed-held f s (accepted t) l = refl
 completed-held f s (refused n) l = shifted-front f l
 
-completed-given : (f : List ℕ) (s : ParserStats) (r : Reply EscTelemetry) → completed f s r .parsed ≡ given r
+completed-given : (f : List ℕ) (s : ParserStats) (r : Reply EscTelemetry) → completed f s r .parsed ≡ sampleGiven r
 completed-given f s (accepted t) = refl
 completed-given f s (refused n) = refl
 
-completed-counted : (f : List ℕ) (s : ParserStats) (r : Reply EscTelemetry) → completed f s r .parser .stats ≡ counted r s
+completed-counted : (f : List ℕ) (s : ParserStats) (r : Reply EscTelemetry) → completed f s r .parser .stats ≡ tallied r s
 completed-counted f s (accepted t) = refl
 completed-counted f s (refused n) = refl
 
@@ -144,8 +144,8 @@ module _ (xs : List ℕ) (b : ℕ) where
         record { gives = rw (le-ltb _ _ full, r); holds = rw (le-ltb _ _ full, r); counts = λ s. rw (le-ltb _ _ full, r) }
 
 -- over a stream of bytes the parser's own calls give what the bytes held give
-pub parsed-by-held : (p : StreamParser) (bs : List ℕ) → length (p .bytes) ≡ 10 → parsedBy p bs ≡ framed (held p) bs
-unfolding parsedBy framed
+pub parsed-by-held : (p : StreamParser) (bs : List ℕ) → length (p .bytes) ≡ 10 → parsedBy p bs ≡ parsedFrom (held p) bs
+unfolding parsedBy parsedFrom
 parsed-by-held p [] ten = refl
 parsed-by-held p (b ∷ bs) ten =
     rw (given-by-held p b ten, parsed-by-held (pushOf p b .parser) bs (keeps-ten p b ten), held-by-held p b ten)
@@ -153,7 +153,7 @@ parsed-by-held p (b ∷ bs) ten =
 -- two parsers that hold the same bytes give the same at every byte of every stream
 pub parsed-alike : (p q : StreamParser) → length (p .bytes) ≡ 10 → length (q .bytes) ≡ 10 → held p ≡ held q
     → (bs : List ℕ) → parsedBy p bs ≡ parsedBy q bs
-parsed-alike p q ten ten′ same bs = parsed-by-held p bs ten ∙ ap (λ (xs : List ℕ). framed xs bs) same ∙ sym (parsed-by-held q bs ten′)
+parsed-alike p q ten ten′ same bs = parsed-by-held p bs ten ∙ ap (λ (xs : List ℕ). parsedFrom xs bs) same ∙ sym (parsed-by-held q bs ten′)
 
 -- a new parser and one that was reset hold nothing
 pub new-holds : held newParser ≡ []

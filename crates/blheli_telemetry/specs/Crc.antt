@@ -27,5 +27,5 @@ unfoldable pub crcOf : List ℕ → ℕ
 crcOf bytes = crcFrom 0 bytes
 
 -- the rule of the table: at each byte stands what its eight bits make of an empty register
-pub record Tabled (table : List ℕ) : Type 0 where
+pub record CrcTabled (table : List ℕ) : Type 0 where
   pub rule : (byte : ℕ) → byte < 256 → getD table byte 0 ≡ crcBits byte

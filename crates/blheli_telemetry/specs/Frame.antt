@@ -44,12 +44,12 @@ readFrame f =
     (refused 5)
 
 -- writing: 9 where the lent output has not ten entries
-unfoldable pub writeReply : List ℕ → Reply (Unit {0})
-writeReply out = pick (leb 10 (length out)) (accepted tt) (refused 9)
+unfoldable pub frameReply : List ℕ → Reply (Unit {0})
+frameReply out = pick (leb 10 (length out)) (accepted tt) (refused 9)
 
 -- the lent output afterwards: the frame from its first entry on, and the rest as found; all as found where it is refused
-unfoldable pub written : EscTelemetry → List ℕ → List ℕ
-written t out = pick (leb 10 (length out)) (overwrite 0 (frameOf t) out) out
+unfoldable pub frameWritten : EscTelemetry → List ℕ → List ℕ
+frameWritten t out = pick (leb 10 (length out)) (overwrite 0 (frameOf t) out) out
 
 -- document 01's number and values for each answer of `decode` and of `encode`
 abbrev pub decoded : Decoded → Reply EscTelemetry

@@ -17,34 +17,34 @@ use Rattle.blheli_telemetry.specs.declared.parser.StreamParser.{StreamPa
 abbrev pub held : StreamParser → List ℕ
 held p = take (min (p .len) 9) (p .bytes)
 
-abbrev pub given : Reply EscTelemetry → Parsed
-given (accepted t) = Sample t
-given (refused n) = Nothing
+abbrev pub sampleGiven : Reply EscTelemetry → Parsed
+sampleGiven (accepted t) = Sample t
+sampleGiven (refused n) = Nothing
 
-abbrev pub kept : List ℕ → Reply EscTelemetry → List ℕ
-kept f (accepted t) = []
-kept f (refused n) = drop 1 f
+abbrev pub heldOn : List ℕ → Reply EscTelemetry → List ℕ
+heldOn f (accepted t) = []
+heldOn f (refused n) = drop 1 f
 
 -- what a byte brings out of a parser that holds xs
 unfoldable pub givenAfter : List ℕ → ℕ → Parsed
-givenAfter xs b = pick (ltb (length xs) 9) Nothing (given (readFrame (xs ++ b ∷ [])))
+givenAfter xs b = pick (ltb (length xs) 9) Nothing (sampleGiven (readFrame (xs ++ b ∷ [])))
 
 -- what the parser then holds
 unfoldable pub heldAfter : List ℕ → ℕ → List ℕ
-heldAfter xs b = pick (ltb (length xs) 9) (xs ++ b ∷ []) (kept (xs ++ b ∷ []) (readFrame (xs ++ b ∷ [])))
+heldAfter xs b = pick (ltb (length xs) 9) (xs ++ b ∷ []) (heldOn (xs ++ b ∷ []) (readFrame (xs ++ b ∷ [])))
 
-abbrev pub counted : Reply EscTelemetry → ParserStats → ParserStats
-counted (accepted t) s = countedGood s
-counted (refused n) s = countedBad s
+abbrev pub tallied : Reply EscTelemetry → ParserStats → ParserStats
+tallied (accepted t) s = countedGood s
+tallied (refused n) s = countedBad s
 
 -- what becomes of its counts
 unfoldable pub countedAfter : List ℕ → ℕ → ParserStats → ParserStats
-countedAfter xs b s = pick (ltb (length xs) 9) s (counted (readFrame (xs ++ b ∷ [])) s)
+countedAfter xs b s = pick (ltb (length xs) 9) s (tallied (readFrame (xs ++ b ∷ [])) s)
 
 -- what a parser that holds xs gives at each byte of a stream
-unfoldable pub framed : List ℕ → List ℕ → List Parsed
-framed xs [] = []
-framed xs (b ∷ bs) = givenAfter xs b ∷ framed (heldAfter xs b) bs
+unfoldable pub parsedFrom : List ℕ → List ℕ → List Parsed
+parsedFrom xs [] = []
+parsedFrom xs (b ∷ bs) = givenAfter xs b ∷ parsedFrom (heldAfter xs b) bs
 
 -- the same of the parser's own call
 unfoldable pub parsedBy : StreamParser → List ℕ → List Parsed

@@ -11,6 +11,7 @@ pub enum Found {
     Nowhere,
 }
 
+// Where a good frame stands in a capture, for a reader that has no stream to parse.
 pub fn find_frame(capture: &[u8]) -> Found
     ensures { λ r. ⌜ Searched (now (capture .entry)) r ⌝ }
 {

@@ -1,6 +1,6 @@
 // CRC-8 with polynomial 07, start 0, highest bit first, a byte at a time.
 ghost use mathlib.Core.Path.{_≡_};
-ghost use Rattle.blheli_telemetry.specs.Crc.{crcByte, crcOf, Tabled};
+ghost use Rattle.blheli_telemetry.specs.Crc.{crcByte, crcOf, CrcTabled};
 use crate::crc_table::CRC_TABLE;
 
 // The table is laid out once for a call, and lent: a constant is laid out anew at each use.
@@ -19,7 +19,7 @@ pub fn crc8(bytes: &[u8]) -> u8
 
 // The register after one byte more.
 fn next(table: &[u8; 256], crc: u8, byte: u8) -> u8
-    requires { ⌜ Tabled (now table) ⌝ }
+    requires { ⌜ CrcTabled (now table) ⌝ }
     ensures { λ r. ⌜ r ≡ crcByte crc byte ⌝ }
 {
     let entry = (crc ^ byte) as usize;

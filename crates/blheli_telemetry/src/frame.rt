@@ -4,7 +4,7 @@ ghost use mathlib.Core.Path.{_≡_};
 ghost use Prim.Native.Nat.{_≤_};
 ghost use lib.ListN.{length};
 ghost use Rattle.base.specs.BigEndian.{overwrite};
-ghost use Rattle.blheli_telemetry.specs.Frame.{telemetryOf, payloadOf, readFrame, writeReply, written, decoded, encoded};
+ghost use Rattle.blheli_telemetry.specs.Frame.{telemetryOf, payloadOf, readFrame, frameReply, frameWritten, decoded, encoded};
 use crate::big_endian::be16_at;
 use crate::big_endian::put_be16;
 use crate::crc::crc8;
@@ -36,6 +36,7 @@ pub enum Encoded {
     Space,
 }
 
+// The telemetry of ten bytes whose last is the check byte of the nine before.
 pub fn decode(frame: &[u8]) -> Decoded
     ensures { λ r. ⌜ decoded r ≡ readFrame (now (frame .entry)) ⌝ }
 {
@@ -50,8 +51,8 @@ pub fn decode(frame: &[u8]) -> Decoded
 
 // Writes the frame at the start of out, and leaves the rest of it as it is.
 pub fn encode(telemetry: EscTelemetry, out: &mut [u8]) -> Encoded
-    ensures { λ r. ⌜ encoded r ≡ writeReply (now (out .entry)) ⌝ }
-    ensures { λ _. ⌜ now (out .exit) ≡ written telemetry (now (out .entry)) ⌝ }
+    ensures { λ r. ⌜ encoded r ≡ frameReply (now (out .entry)) ⌝ }
+    ensures { λ _. ⌜ now (out .exit) ≡ frameWritten telemetry (now (out .entry)) ⌝ }
 {
     if out.len() < FRAME_LEN {
         return Encoded::Space;

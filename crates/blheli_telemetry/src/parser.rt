@@ -35,6 +35,7 @@ pub struct Pushed {
 }
 
 impl StreamParser {
+    // A parser that holds no byte and has counted nothing.
     pub fn new() -> Self
         ensures { λ r. ⌜ r ≡ newParser ⌝ }
     {
@@ -127,6 +128,7 @@ impl StreamParser {
         }
     }
 
+    // What the parser has counted since it was made.
     pub fn stats(self) -> ParserStats
         ensures { λ r. ⌜ r ≡ self .stats ⌝ }
     {

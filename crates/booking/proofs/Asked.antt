@@ -14,7 +14,7 @@ use Rattle.esc_records.specs.declared.answer.Answer.the-variants as answer
 use Rattle.booking.specs.History.{Opening, Check, Seen, seen, saidBy, Past}
 use Rattle.booking.specs.Wire.{Frame, wire, frameAt, timed}
 use Rattle.booking.specs.Booking.{bookedTo, newlyStarted, startedRequest, latestFrame}
-use Rattle.booking.specs.Faults.{expired}
+use Rattle.booking.specs.Faults.{timeoutFor}
 use Rattle.booking.specs.IdleRule.{judged}
 use Rattle.booking.specs.Rule.{ackAnswer, wireAnswerOf, answerTo}
 
@@ -49,7 +49,7 @@ module _ (h : Past) where
   shown o (kind.NextRequest now) = record { shows = passes refl refl refl; status = refl }
   shown o (kind.MarkRequestQueued q now) = record { shows = passes refl refl refl; status = refl }
   shown o (kind.ActuatorAck k now) = acked k now (newlyStarted h (k .request)) (latestFrame h)
-  shown o (kind.PollTimeout now) = polled now (expired o h now)
+  shown o (kind.PollTimeout now) = polled now (timeoutFor o h now)
   shown o (kind.WireByte b now) = received b now (bookedTo (startedRequest h) (timed (frameAt (wire h) b) now))
   shown o kind.WireDiscontinuity = record { shows = passes refl refl refl; status = refl }
   shown o (kind.TryRecover armed now) = record { shows = passes refl refl refl; status = refl }

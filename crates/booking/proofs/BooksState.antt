@@ -26,7 +26,7 @@ use Rattle.esc_unit.specs.declared.books.Books.{Books}
 use Rattle.esc_unit.specs.declared.books.Booked.{Booked}
 use Rattle.booking.specs.History.{Check, Seen, Past}
 use Rattle.booking.specs.IdleRule.{judged}
-use Rattle.booking.specs.Samples.{stored, given, hottest, lowest, figureOf}
+use Rattle.booking.specs.Samples.{stored, deliveredOn, hottest, lowest, figureOf}
 use Rattle.booking.specs.Rule.{storedAnswerOf}
 use Rattle.booking.proofs.Lanes.{four, at-four, set-four, change-kept, lane-eq}
 use Rattle.booking.proofs.IdleState.{IdleAt, asked, status-is, idle-same, idle-new, idle-none, idle-unasked, unasked-is}
@@ -39,7 +39,7 @@ abbrev pub samplesAt : Past → EscSamples
 samplesAt h = record { slots = four (λ l. slotOf (heldOf (stored h l))) }
 
 abbrev pub figuresAt : Past → Figures
-figuresAt h = record { lanes = four (λ l. figureOf (given h l)) }
+figuresAt h = record { lanes = four (λ l. figureOf (deliveredOn h l)) }
 
 pub record BooksAt (h : Past) (b : Books) : Type 0 where
   pub samples : b .samples ≡ samplesAt h
@@ -47,7 +47,7 @@ pub record BooksAt (h : Past) (b : Books) : Type 0 where
   pub figures : b .figures ≡ figuresAt h
 
 pub books-new : BooksAt [] noBooks
-unfolding stored given figureOf hottest lowest
+unfolding stored deliveredOn figureOf hottest lowest
 books-new = record { samples = refl; idle = idle-none (noBooks .idle); figures = refl }
 
 -- figures
@@ -60,12 +60,12 @@ add-is u (v ∷ us) =
     rw (some-are, e)
 
 figures-took : (h : Past) (e : Seen) (u : EscTelemetryUpdate) → e .requests .delivered ≡ some u → figuresWith (figuresAt h) u ≡ figuresAt (e ∷ h)
-unfolding given
+unfolding deliveredOn
 figures-took h e u d =
-    rw (d, change-kept noFigure figureOf (given h) (λ f. withSample f (u .observation .sample)) (λ us. u ∷ us) (u .output .0) (add-is u))
+    rw (d, change-kept noFigure figureOf (deliveredOn h) (λ f. withSample f (u .observation .sample)) (λ us. u ∷ us) (u .output .0) (add-is u))
 
 figures-same : (h : Past) (e : Seen) → e .requests .delivered ≡ none → figuresAt h ≡ figuresAt (e ∷ h)
-unfolding given
+unfolding deliveredOn
 figures-same h e d = rw d
 
 -- stored samples
@@ -197,5 +197,5 @@ module _ (h : Past) (b : Books) (i : BooksAt h b) where
       ∙ ap (λ (z : Slot). sampleOf o (z .held)) (at-four (slotOf held.None) (λ l. slotOf (heldOf (stored h l))) (o .0))
       ∙ stored-is h o (stored h (o .0)) refl
 
-  pub figure-at : (o : EscOutput) → figureAt (b .figures) o ≡ figureOf (given h (o .0))
-  figure-at o = ap (λ (z : Figures). figureAt z o) (i .figures) ∙ at-four noFigure (λ l. figureOf (given h l)) (o .0)
+  pub figure-at : (o : EscOutput) → figureAt (b .figures) o ≡ figureOf (deliveredOn h (o .0))
+  figure-at o = ap (λ (z : Figures). figureAt z o) (i .figures) ∙ at-four noFigure (λ l. figureOf (deliveredOn h l)) (o .0)

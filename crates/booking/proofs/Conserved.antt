@@ -19,7 +19,7 @@ use Rattle.base.specs.Maybe.{is}
 use Rattle.booking.specs.History.{Opening, Timed, Past, Since, since, seen}
 use Rattle.booking.specs.Wire.{Frame, wire, frameAt, timed}
 use Rattle.booking.specs.Booking.{onlyThe, bookedTo, openRequest, latestFrame, newlyStarted, startedRequest}
-use Rattle.booking.specs.Faults.{expired, expiryOf, faulted}
+use Rattle.booking.specs.Faults.{timeoutFor, expiryOf, faulted}
 use Rattle.booking.specs.Turns.{existing, names}
 use Rattle.booking.specs.Counts.{one, count}
 use Rattle.booking.specs.Rule.{ackAnswer, wireAnswerOf, answerTo}
@@ -79,9 +79,9 @@ timeout-open : (o : Opening) (h : Past) (now : ℕ) (x : Option Timed) (t : EscM
 timeout-open o h now none t e k = absurd (true≢false (sym k ∙ ap isTimeout (sym e)))
 timeout-open o h now (some q) t e k = refl
 
-timeout-balance : (o : Opening) (h : Past) (now : ℕ) (t : EscManagerTimeout) → expired o h now ≡ t
+timeout-balance : (o : Opening) (h : Past) (now : ℕ) (t : EscManagerTimeout) → timeoutFor o h now ≡ t
     → Balanced h → Balanced (seen (kind.PollTimeout now) (answer.Timeout t) ∷ h)
-unfolding count openRequest expired
+unfolding count openRequest timeoutFor
 timeout-balance o h now timeout.None e b = omega (arith, b)
 timeout-balance o h now (timeout.ActuatorAck q) e b = omega (arith, b, ap one (timeout-open o h now (openRequest h) _ e refl))
 timeout-balance o h now (timeout.TelemetryResponse q) e b = omega (arith, b, ap one (timeout-open o h now (openRequest h) _ e refl))
@@ -92,7 +92,7 @@ balance o h (kind.Open c t) f b = absurd (true≢false f)
 balance o h (kind.NextRequest now) f b = omega (arith, b)
 balance o h (kind.MarkRequestQueued q now) f b = granted-balance o h q now (existing o h now) refl b
 balance o h (kind.ActuatorAck k now) f b = acked-balance o h k now (newlyStarted h (k .request)) refl (latestFrame h) _ b
-balance o h (kind.PollTimeout now) f b = timeout-balance o h now (expired o h now) refl b
+balance o h (kind.PollTimeout now) f b = timeout-balance o h now (timeoutFor o h now) refl b
 balance o h (kind.WireByte x now) f b = byte-balance o h x now (startedRequest h) refl (timed (frameAt (wire h) x) now) _ b
 balance o h kind.WireDiscontinuity f b = omega (arith, b)
 balance o h (kind.TryRecover armed now) f b = omega (arith, b)

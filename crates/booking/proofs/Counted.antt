@@ -17,7 +17,7 @@ use Rattle.esc_feedback.specs.declared.request.EscTelemetryUpdate.{EscTelemetry
 use Rattle.esc_idle.specs.declared.idle_config.EscIdleQualificationConfig.{EscIdleQualificationConfig}
 use Rattle.base.specs.Maybe.{onlyIf}
 use Rattle.booking.specs.History.{Check}
-use Rattle.booking.specs.IdleRule.{erpm, expired, pastGrace, fresh, joined, runAt, tally}
+use Rattle.booking.specs.IdleRule.{erpm, expired, pastGrace, fresh, joined, streakAt, tally}
 use Rattle.booking.specs.Samples.{added}
 use Rattle.booking.specs.Qualified.{Within, Justified}
 
@@ -74,7 +74,7 @@ uncounted true = refl
 uncounted false = refl
 
 pub run-counts : (k : Check) (x : Option EscTelemetryUpdate) (now : ℕ) (l : Lane) (us all : List EscTelemetryUpdate) → over k x now ≡ false
-    → Newest (k .config) us all → Newest (k .config) (runAt k x now l us) (added (onlyIf (pastGrace k now) x) l all)
+    → Newest (k .config) us all → Newest (k .config) (streakAt k x now l us) (added (onlyIf (pastGrace k now) x) l all)
 run-counts k none now l us all n i = rw (uncounted (pastGrace k now)) (freshened (k .config) now us all i)
 run-counts k (some u) now l us all n i = go (pastGrace k now) n
   where

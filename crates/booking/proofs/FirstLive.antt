@@ -17,9 +17,9 @@ use Rattle.esc_records.specs.declared.answer.IdleAnswer.the-variants.{NoCheck}
 use Rattle.booking.specs.History.{since}
 use Rattle.booking.specs.Wire.{Frame, wire, latest, frameAt}
 use Rattle.booking.specs.Booking.{openRequest, startedAt, latestFrame, newlyStarted, startedRequest}
-use Rattle.booking.specs.Faults.{faulted, quietSince, retries, expired, recovers, note}
+use Rattle.booking.specs.Faults.{faulted, quietSince, retries, timeoutFor, recovers, note}
 use Rattle.booking.specs.Turns.{turn, lastQueued, existing}
-use Rattle.booking.specs.IdleRule.{check, verdict, run, judged}
+use Rattle.booking.specs.IdleRule.{check, verdict, streak, judged}
 use Rattle.booking.specs.Rule.{ruleFor, traceOf}
 use Rattle.booking.specs.FirstNine.{areBytes, ofBytes, frameFor, sampleHolds}
 use Rattle.booking.proofs.Session.{roomy}
@@ -63,7 +63,7 @@ pub first-live : (ofBytes (map roomy (started ++ tenth ∷ [])) ≡ true)
     × (sampleHolds second given NoCheck ≡ answer)
     × (lastReply (started ++ tenth ∷ []) ≡ answer)
     × (lastReply (held ++ acks ∷ []) ≡ answer)
-unfolding numberAt bytesOf crcBit crcBits crcByte crcFrom crcOf telemetryOf payloadOf due recordOf readRecord requestBytes sampleBytes deliveredBytes failureBytes idleBytes nextBytes ackBytes wireBytes timeoutBytes bodyBytes answerBytes replyBytes since wire latest frameAt openRequest startedAt latestFrame newlyStarted startedRequest faulted quietSince retries expired recovers note turn lastQueued existing check verdict run judged ruleFor traceOf areBytes ofBytes
+unfolding numberAt bytesOf crcBit crcBits crcByte crcFrom crcOf telemetryOf payloadOf due recordOf readRecord requestBytes sampleBytes deliveredBytes failureBytes idleBytes nextBytes ackBytes wireBytes timeoutBytes bodyBytes answerBytes replyBytes since wire latest frameAt openRequest startedAt latestFrame newlyStarted startedRequest faulted quietSince retries timeoutFor recovers note turn lastQueued existing check verdict streak judged ruleFor traceOf areBytes ofBytes
 first-live = (refl, refl, refl, refl, refl, refl)
 
 -- a record with 100 (hexadecimal) where a byte should be: the frame has it, and the answer has 00
@@ -79,5 +79,5 @@ widest = byte 2 (crcOf wide)
 pub bytes-needed : (ofBytes (map roomy widely) ≡ false)
     × (frameFor (pastBy widely) (recordOf widest) ≡ some (record { bytes = wide ++ crcOf wide ∷ []; at = 2 }))
     × (take 9 (drop 15 (lastReply (widely ++ widest ∷ []))) ≡ replicate 9 0x00)
-unfolding numberAt bytesOf crcBit crcBits crcByte crcFrom crcOf telemetryOf payloadOf due recordOf readRecord requestBytes sampleBytes deliveredBytes failureBytes idleBytes nextBytes ackBytes wireBytes timeoutBytes bodyBytes answerBytes replyBytes since wire latest frameAt openRequest startedAt latestFrame newlyStarted startedRequest faulted quietSince retries expired recovers note turn lastQueued existing check verdict run judged ruleFor traceOf areBytes ofBytes
+unfolding numberAt bytesOf crcBit crcBits crcByte crcFrom crcOf telemetryOf payloadOf due recordOf readRecord requestBytes sampleBytes deliveredBytes failureBytes idleBytes nextBytes ackBytes wireBytes timeoutBytes bodyBytes answerBytes replyBytes since wire latest frameAt openRequest startedAt latestFrame newlyStarted startedRequest faulted quietSince retries timeoutFor recovers note turn lastQueued existing check verdict streak judged ruleFor traceOf areBytes ofBytes
 bytes-needed = (refl, refl, refl)

@@ -13,8 +13,8 @@ use Rattle.blheli_telemetry.specs.declared.parser.Parsed.{Parsed}
 use Rattle.blheli_telemetry.specs.declared.parser.Parsed.the-variants.{Sample, Nothing}
 use Rattle.base.specs.Due.{due}
 use Rattle.esc_feedback.specs.Request.{sameRequest}
-use Rattle.esc_feedback.specs.Manager.{delivered}
-use Rattle.esc_feedback.specs.Fault.{heardAt, quietWindow, mayRecover}
+use Rattle.esc_feedback.specs.Manager.{closedBySample}
+use Rattle.esc_feedback.specs.Fault.{afterHearing, quietWindow, mayRecover}
 use Rattle.esc_feedback.specs.Queueing.{requestExists, nextRequest, markQueued}
 use Rattle.esc_feedback.specs.Ack.{ackOn, onAck}
 use Rattle.esc_feedback.specs.Timeout.{polledOn, pollTimeout}
@@ -79,7 +79,7 @@ abbrev samples : List Parsed
 samples = replicate 9 Nothing ++ Sample (telemetryOf nine) ∷ (replicate 13 Nothing ++ Sample (telemetryOf second) ∷ [])
 
 pub alike : Comes before after true false same samples × Comes before′ after′ true false same samples
-unfolding numberAt bytesOf crcBit crcBits crcByte crcFrom crcOf telemetryOf payloadOf readFrame shiftedDown pushOf due sameRequest delivered heardAt quietWindow mayRecover requestExists nextRequest markQueued ackOn onAck polledOn pollTimeout framedOn receivedOn pushWire tryRecover withSample bookedIn recordOf readRecord requestBytes sampleBytes deliveredBytes failureBytes idleBytes nextBytes ackBytes wireBytes timeoutBytes reportBytes bodyBytes answerBytes stepOf enter callOf since wire feed run passed reopened heard given
+unfolding numberAt bytesOf crcBit crcBits crcByte crcFrom crcOf telemetryOf payloadOf readFrame shiftedDown pushOf due sameRequest closedBySample afterHearing quietWindow mayRecover requestExists nextRequest markQueued ackOn onAck polledOn pollTimeout framedOn receivedOn pushWire tryRecover withSample bookedIn recordOf readRecord requestBytes sampleBytes deliveredBytes failureBytes idleBytes nextBytes ackBytes wireBytes timeoutBytes reportBytes bodyBytes answerBytes stepOf enter callOf since wire feed run passed reopened heard given
 alike = (
   record { is-cut = refl; is-opened = refl; hears = refl; gives = refl },
   record { is-cut = refl; is-opened = refl; hears = refl; gives = refl },
@@ -104,7 +104,7 @@ pub record Apart : Type 0 where
   pub opened-anew : Comes before (calls (five ++ open′ ∷ five)) true true (map byte second) (replicate 10 Nothing)
 
 pub apart : Apart
-unfolding numberAt bytesOf crcBit crcBits crcByte crcFrom crcOf telemetryOf payloadOf readFrame shiftedDown pushOf due sameRequest delivered heardAt quietWindow mayRecover requestExists nextRequest markQueued ackOn onAck polledOn pollTimeout framedOn receivedOn pushWire tryRecover withSample bookedIn recordOf readRecord requestBytes sampleBytes deliveredBytes failureBytes idleBytes nextBytes ackBytes wireBytes timeoutBytes reportBytes bodyBytes answerBytes stepOf enter callOf since wire feed run passed reopened heard given
+unfolding numberAt bytesOf crcBit crcBits crcByte crcFrom crcOf telemetryOf payloadOf readFrame shiftedDown pushOf due sameRequest closedBySample afterHearing quietWindow mayRecover requestExists nextRequest markQueued ackOn onAck polledOn pollTimeout framedOn receivedOn pushWire tryRecover withSample bookedIn recordOf readRecord requestBytes sampleBytes deliveredBytes failureBytes idleBytes nextBytes ackBytes wireBytes timeoutBytes reportBytes bodyBytes answerBytes stepOf enter callOf since wire feed run passed reopened heard given
 apart =
     record {
       as-asked = record { is-cut = refl; is-opened = refl; hears = refl; gives = refl };

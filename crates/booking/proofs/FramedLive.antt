@@ -13,9 +13,9 @@ use Rattle.esc_records.specs.Answer.{requestBytes, sampleBytes, deliveredBytes,
 use Rattle.booking.specs.History.{since}
 use Rattle.booking.specs.Wire.{wire, latest, frameAt}
 use Rattle.booking.specs.Booking.{openRequest, startedAt, latestFrame, newlyStarted, startedRequest}
-use Rattle.booking.specs.Faults.{faulted, quietSince, retries, expired, recovers, note}
+use Rattle.booking.specs.Faults.{faulted, quietSince, retries, timeoutFor, recovers, note}
 use Rattle.booking.specs.Turns.{turn, lastQueued, existing}
-use Rattle.booking.specs.IdleRule.{check, verdict, run, judged}
+use Rattle.booking.specs.IdleRule.{check, verdict, streak, judged}
 use Rattle.booking.specs.Rule.{ruleFor, traceOf}
 use Rattle.booking.proofs.Live.{open′, byte, cutWire, nine, pastBy}
 
@@ -27,5 +27,5 @@ pub framing : (endedBy 0x5a (map (byte 1) (0xaa ∷ 0x00 ∷ 0x00 ∷ []) ++ cut
     × (endedBy 0x5a (cutWire ∷ map (byte 7) nine) ≡ some (nine ++ 0x5a ∷ []))
     × (endedBy 0x00 (map (byte 1) (replicate 9 0x00)) ≡ some (replicate 10 0x00))
     × (endedBy 0x00 (map (byte 1) (replicate 5 0x00) ++ cutWire ∷ map (byte 1) (replicate 4 0x00)) ≡ none)
-unfolding numberAt bytesOf crcBit crcBits crcByte crcFrom crcOf telemetryOf payloadOf due recordOf readRecord requestBytes sampleBytes deliveredBytes failureBytes idleBytes nextBytes ackBytes wireBytes timeoutBytes bodyBytes answerBytes since wire latest frameAt openRequest startedAt latestFrame newlyStarted startedRequest faulted quietSince retries expired recovers note turn lastQueued existing check verdict run judged ruleFor traceOf
+unfolding numberAt bytesOf crcBit crcBits crcByte crcFrom crcOf telemetryOf payloadOf due recordOf readRecord requestBytes sampleBytes deliveredBytes failureBytes idleBytes nextBytes ackBytes wireBytes timeoutBytes bodyBytes answerBytes since wire latest frameAt openRequest startedAt latestFrame newlyStarted startedRequest faulted quietSince retries timeoutFor recovers note turn lastQueued existing check verdict streak judged ruleFor traceOf
 framing = (refl, refl, refl, refl)

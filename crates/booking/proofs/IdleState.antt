@@ -11,7 +11,7 @@ use Rattle.base.specs.Choice.{pick}
 use Rattle.base.specs.Due.{due}
 use Rattle.esc_idle.specs.IdleConfig.{validSettings}
 use Rattle.esc_idle.specs.IdleLane.{clearLane, countLane, expired as unitExpired, expireLane, expireLanes, everyEnough}
-use Rattle.esc_idle.specs.Idle.{newIdle, answered, decided, freshAt, weighed as unitWeighed, statusOf, sampled, measured, observeOf}
+use Rattle.esc_idle.specs.Idle.{newIdle, saying, decided, freshAt, weighed as unitWeighed, statusOf, sampled, measured, observeOf}
 use Rattle.esc_feedback.specs.declared.output.Lane.{Lane}
 use Rattle.esc_feedback.specs.declared.output.Lane.the-variants.{Output1, Output2, Output3, Output4}
 use Rattle.esc_feedback.specs.declared.request.EscTelemetryUpdate.{EscTelemetryUpdate}
@@ -29,7 +29,7 @@ use Rattle.esc_idle.specs.declared.idle.EscIdleJudged.{EscIdleJudged}
 use Rattle.esc_records.specs.declared.answer.IdleAnswer.the-variants.{NoCheck, Status}
 use Rattle.base.specs.Maybe.{earliest}
 use Rattle.booking.specs.History.{Check, Seen, Past}
-use Rattle.booking.specs.IdleRule.{check, verdictIn, verdict, valid, erpm, expired, pastGrace, fresh, joined, runAt, run, tally, settled, judgedAt, judged}
+use Rattle.booking.specs.IdleRule.{check, verdictIn, verdict, valid, erpm, expired, pastGrace, fresh, joined, streakAt, streak, tally, settled, judgedAt, judged}
 use Rattle.booking.proofs.Lanes.{four, change-kept}
 
 abbrev newestOf : List EscTelemetryUpdate → Newest
@@ -106,7 +106,7 @@ timeoutOf g = Failed (Timeout (tally (g Output1)) (tally (g Output2)) (tally (g 
 weigh : (k : Check) (g : Lane → List EscTelemetryUpdate) (a d : Bool)
     → Judged k g
     (pick a Qualified (pick d (timeoutOf g) Pending))
-    (pick a (decided (checkAt k g) Qualified) (pick d (decided (checkAt k g) (timeoutOf g)) (answered (checkAt k g) Pending)))
+    (pick a (decided (checkAt k g) Qualified) (pick d (decided (checkAt k g) (timeoutOf g)) (saying (checkAt k g) Pending)))
 weigh k g true d = final k g g Qualified refl
 weigh k g false true = final k g g (timeoutOf g) refl
 weigh k g false false = record { status = refl; config = refl; start = refl; verdict = refl; lanes = λ z. refl }
@@ -166,7 +166,7 @@ asks q none now = statusOf q now
 asks q (some u) now = observeOf q u now
 
 asks-is : (k : Check) (f : Lane → List EscTelemetryUpdate) (x : Option EscTelemetryUpdate) (now : ℕ)
-    → Judged k (λ l. runAt k x now l (f l)) (pick (valid (k .config)) (judgedAt k x now f) (Failed InvalidConfig)) (asks (checkAt k f) x now)
+    → Judged k (λ l. streakAt k x now l (f l)) (pick (valid (k .config)) (judgedAt k x now f) (Failed InvalidConfig)) (asks (checkAt k f) x now)
 unfolding statusOf observeOf
 asks-is k f none now = rw (← valid-is (k .config)) (go (validSettings (k .config)))
   where
@@ -184,22 +184,22 @@ asks-is k f (some u) now = rw (← valid-is (k .config)) (go (validSettings (k .
     grace : validSettings (k .config) ≡ true → (d : Bool)
         → Judged k (λ l. pick d (fresh (k .config) now (joined (k .config) u l (f l))) (f l))
         (pick d (pick (ltb (k .config .«max_erpm_div100») (erpm u)) (overspeed u) (settled k now (λ l. pick d (fresh (k .config) now (joined (k .config) u l (f l))) (f l)))) Pending)
-        (pick d (measured (checkAt k f) u now) (answered (checkAt k f) Pending))
+        (pick d (measured (checkAt k f) u now) (saying (checkAt k f) Pending))
     grace ok true = measured-is k u f now ok
     grace ok false = record { status = refl; config = refl; start = refl; verdict = refl; lanes = λ z. refl }
 
     go : (v : Bool) → validSettings (k .config) ≡ v
-        → Judged k (λ l. runAt k (some u) now l (f l))
+        → Judged k (λ l. streakAt k (some u) now l (f l))
         (pick v (judgedAt k (some u) now f) (Failed InvalidConfig))
-        (pick v (pick (pastGrace k now) (measured (checkAt k f) u now) (answered (checkAt k f) Pending)) (decided (checkAt k f) (Failed InvalidConfig)))
+        (pick v (pick (pastGrace k now) (measured (checkAt k f) u now) (saying (checkAt k f) Pending)) (decided (checkAt k f) (Failed InvalidConfig)))
     go true ok = grace ok (pastGrace k now)
-    go false ok = final k f (λ l. runAt k (some u) now l (f l)) (Failed InvalidConfig) refl
+    go false ok = final k f (λ l. streakAt k (some u) now l (f l)) (Failed InvalidConfig) refl
 
 -- over histories: the check that belongs to one
 pub record Checked (h : Past) (q : EscIdleQualification) : Type 0 where
   pub settings : check h ≡ some (record { config = q .config; start = q .«started_at_ms» })
   pub terminal : q .verdict .terminal ≡ terminalOf (verdict h)
-  pub lanes : verdict h ≡ none → q .lanes ≡ lanesOf (run h)
+  pub lanes : verdict h ≡ none → q .lanes ≡ lanesOf (streak h)
 
 abbrev pub IdleAt : Past → Bool → EscIdleQualification → Type 0
 IdleAt h false q = check h ≡ none
@@ -214,7 +214,7 @@ earliest-none none = refl
 earliest-none (some u) = refl
 
 asks-ended : (q : EscIdleQualification) (v : EscIdleQualificationStatus) (x : Option EscTelemetryUpdate) (now : ℕ)
-    → q .verdict .terminal ≡ terminal.Some v → asks q x now ≡ answered q v
+    → q .verdict .terminal ≡ terminal.Some v → asks q x now ≡ saying q v
 unfolding statusOf observeOf
 asks-ended q v none now e = rw e
 asks-ended q v (some u) now e = rw e
@@ -223,16 +223,16 @@ module _ (h : Past) (q : EscIdleQualification) (i : Checked h q) (x : Option Esc
   abbrev k : Check
   k = record { config = q .config; start = q .«started_at_ms» }
 
-  running-is : verdict h ≡ none → q ≡ checkAt k (run h)
+  running-is : verdict h ≡ none → q ≡ checkAt k (streak h)
   running-is v =
       let a = i .lanes v in
       let b = i .terminal ∙ ap terminalOf v in
       λ j. record { config = q .config; «started_at_ms» = q .«started_at_ms»; lanes = a j; verdict = record { terminal = b j } }
 
-  found : verdict h ≡ none → Judged k (λ l. runAt k x now l (run h l)) (pick (valid (q .config)) (judgedAt k x now (run h)) (Failed InvalidConfig)) (asks q x now)
+  found : verdict h ≡ none → Judged k (λ l. streakAt k x now l (streak h l)) (pick (valid (q .config)) (judgedAt k x now (streak h)) (Failed InvalidConfig)) (asks q x now)
   found v =
-      subst (λ (z : EscIdleQualification). Judged k (λ l. runAt k x now l (run h l)) (pick (valid (q .config)) (judgedAt k x now (run h)) (Failed InvalidConfig)) (asks z x now))
-      (sym (running-is v)) (asks-is k (run h) x now)
+      subst (λ (z : EscIdleQualification). Judged k (λ l. streakAt k x now l (streak h l)) (pick (valid (q .config)) (judgedAt k x now (streak h)) (Failed InvalidConfig)) (asks z x now))
+      (sym (running-is v)) (asks-is k (streak h) x now)
 
   pub status-is : Status (asks q x now .status) ≡ judged h x now
   unfolding judged
@@ -244,7 +244,7 @@ module _ (h : Past) (q : EscIdleQualification) (i : Checked h q) (x : Option Esc
 
   pub asked : (e : Seen) → e .idle .check ≡ none → e .requests .delivered ≡ x → e .idle .status ≡ some (Status (asks q x now .status)) → e .now ≡ now
       → Checked (e ∷ h) (asks q x now .idle)
-  unfolding check verdict run
+  unfolding check verdict streak
   asked e c u s n = go (verdict h) refl
     where
       go : (m : Option EscIdleQualificationStatus) → verdict h ≡ m → Checked (e ∷ h) (asks q x now .idle)
@@ -269,7 +269,7 @@ module _ (h : Past) (q : EscIdleQualification) (i : Checked h q) (x : Option Esc
           }
 
   pub passed-by : (e : Seen) → e .idle .check ≡ none → e .idle .status ≡ none → Checked (e ∷ h) q
-  unfolding check verdict run
+  unfolding check verdict streak
   passed-by e c s =
       record { settings = rw c (i .settings); terminal = rw (c, s) (i .terminal); lanes = λ z. rw (c, s, i .settings) (i .lanes (rw (c, s) at z)) }
 
@@ -281,7 +281,7 @@ idle-same h true q e c s i = passed-by h q i none 0 e c s
 
 -- 0a
 pub idle-new : (h : Past) (e : Seen) (k : Check) → e .idle .check ≡ some k → IdleAt (e ∷ h) true (newIdle (k .config) (k .start))
-unfolding check verdict run
+unfolding check verdict streak
 idle-new h e k c = record { settings = rw c; terminal = rw c; lanes = λ z. rw c }
 
 -- no check yet

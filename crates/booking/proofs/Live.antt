@@ -21,10 +21,10 @@ use Rattle.base.specs.Maybe.{is}
 use Rattle.booking.specs.History.{Past, History, saidBy, updateIn, since}
 use Rattle.booking.specs.Wire.{wire, latest, frameAt}
 use Rattle.booking.specs.Booking.{openRequest, startedAt, latestFrame, newlyStarted, startedRequest}
-use Rattle.booking.specs.Faults.{faulted, quietSince, retries, expired, recovers, note}
+use Rattle.booking.specs.Faults.{faulted, quietSince, retries, timeoutFor, recovers, note}
 use Rattle.booking.specs.Turns.{turn, lastQueued, existing}
-use Rattle.booking.specs.IdleRule.{check, verdict, run, judged}
-use Rattle.booking.specs.Counts.{count, queued, delivered, ackTimeout, responseTimeout, renewed, reportOf}
+use Rattle.booking.specs.IdleRule.{check, verdict, streak, judged}
+use Rattle.booking.specs.Counts.{count, queued, delivered, ackTimeout, responseTimeout, renewed, reportFor}
 use Rattle.booking.specs.Rule.{ruleFor, traceOf}
 use Rattle.booking.specs.Claims.{pastOf}
 use Rattle.booking.proofs.Session.{roomy}
@@ -104,7 +104,7 @@ abbrev pub booked′ : ℕ → ℕ → ℕ → ℕ → Reading
 booked′ l s t e = record { lane = l; sequence = s; at = t; erpm = e }
 
 pub deliveries : readings (traceOf [] (map roomy flight)) ≡ booked′ 0 0 2 60 ∷ booked′ 1 1 5 62 ∷ booked′ 0 4 1801 63 ∷ booked′ 1 5 1901 64 ∷ []
-unfolding numberAt bytesOf crcBit crcBits crcByte crcFrom crcOf telemetryOf payloadOf due recordOf readRecord requestBytes sampleBytes deliveredBytes failureBytes idleBytes nextBytes ackBytes wireBytes timeoutBytes bodyBytes answerBytes since wire latest frameAt openRequest startedAt latestFrame newlyStarted startedRequest faulted quietSince retries expired recovers note turn lastQueued existing check verdict run judged ruleFor traceOf
+unfolding numberAt bytesOf crcBit crcBits crcByte crcFrom crcOf telemetryOf payloadOf due recordOf readRecord requestBytes sampleBytes deliveredBytes failureBytes idleBytes nextBytes ackBytes wireBytes timeoutBytes bodyBytes answerBytes since wire latest frameAt openRequest startedAt latestFrame newlyStarted startedRequest faulted quietSince retries timeoutFor recovers note turn lastQueued existing check verdict streak judged ruleFor traceOf
 deliveries = refl
 
 -- what of a list of records is accepted, by the rule
@@ -124,13 +124,13 @@ past = pastBy flight
 
 -- seven queued: four delivered, a timeout of each kind, and one open
 pub balance : (count queued past ≡ 7) × (count delivered past ≡ 4) × (count ackTimeout past ≡ 1) × (count responseTimeout past ≡ 1) × (is (openRequest past) ≡ true)
-unfolding numberAt bytesOf crcBit crcBits crcByte crcFrom crcOf telemetryOf payloadOf due recordOf readRecord requestBytes sampleBytes deliveredBytes failureBytes idleBytes nextBytes ackBytes wireBytes timeoutBytes bodyBytes answerBytes since wire latest frameAt openRequest startedAt latestFrame newlyStarted startedRequest faulted quietSince retries expired recovers note turn lastQueued existing check verdict run judged ruleFor traceOf count
+unfolding numberAt bytesOf crcBit crcBits crcByte crcFrom crcOf telemetryOf payloadOf due recordOf readRecord requestBytes sampleBytes deliveredBytes failureBytes idleBytes nextBytes ackBytes wireBytes timeoutBytes bodyBytes answerBytes since wire latest frameAt openRequest startedAt latestFrame newlyStarted startedRequest faulted quietSince retries timeoutFor recovers note turn lastQueued existing check verdict streak judged ruleFor traceOf count
 balance = (refl, refl, refl, refl, refl)
 
 -- what a 0c then reports: five 03s taken, one of them with a sample, and one rejected
 abbrev stats : EscManagerStats
-stats = reportOf past .stats
+stats = reportFor past .stats
 
 pub report : (stats .«requests_queued» ≡ 7) × (stats .«requests_started» ≡ 5) × (stats .«actuator_ack_timeouts» ≡ 1) × (stats .«telemetry_response_timeouts» ≡ 1) × (stats .«mismatched_acks» ≡ 1) × (stats .recoveries ≡ 2)
-unfolding numberAt bytesOf crcBit crcBits crcByte crcFrom crcOf telemetryOf payloadOf due recordOf readRecord requestBytes sampleBytes deliveredBytes failureBytes idleBytes nextBytes ackBytes wireBytes timeoutBytes bodyBytes answerBytes since wire latest frameAt openRequest startedAt latestFrame newlyStarted startedRequest faulted quietSince retries expired recovers note turn lastQueued existing check verdict run judged ruleFor traceOf count renewed reportOf
+unfolding numberAt bytesOf crcBit crcBits crcByte crcFrom crcOf telemetryOf payloadOf due recordOf readRecord requestBytes sampleBytes deliveredBytes failureBytes idleBytes nextBytes ackBytes wireBytes timeoutBytes bodyBytes answerBytes since wire latest frameAt openRequest startedAt latestFrame newlyStarted startedRequest faulted quietSince retries timeoutFor recovers note turn lastQueued existing check verdict streak judged ruleFor traceOf count renewed reportFor
 report = (refl, refl, refl, refl, refl, refl)

@@ -17,8 +17,8 @@ use Rattle.esc_feedback.specs.Output.{laneOf}
 use Rattle.esc_feedback.specs.Request.{sameRequest}
 use Rattle.esc_feedback.specs.Stats.{statsOf}
 use Rattle.esc_feedback.specs.Line.{lineOf, closedLine}
-use Rattle.esc_feedback.specs.Fault.{faultOf, heardAt}
-use Rattle.esc_feedback.specs.Manager.{managerOf, noted, newManager, delivered}
+use Rattle.esc_feedback.specs.Fault.{faultOf, afterHearing}
+use Rattle.esc_feedback.specs.Manager.{managerOf, noted, newManager, closedBySample}
 use Rattle.esc_feedback.specs.declared.config.EscManagerConfig.{EscManagerConfig}
 use Rattle.esc_feedback.specs.declared.request.EscActuatorRequest.{EscActuatorRequest}
 use Rattle.esc_feedback.specs.declared.stats.EscManagerStats.{EscManagerStats}
@@ -37,7 +37,7 @@ use Rattle.booking.specs.Wire.{Frame, timed, wire, frameAt, parsed}
 use Rattle.booking.specs.Booking.{equal, booked, openRequest, startedAt, latestFrame}
 use Rattle.booking.specs.Faults.{faulted, quietSince, retries, note}
 use Rattle.booking.specs.Turns.{turn, lastQueued}
-use Rattle.booking.specs.Counts.{queued, started, ackTimeout, responseTimeout, mismatched, unsolicited, recovered, framed, wrong, renewed}
+use Rattle.booking.specs.Counts.{queued, started, ackTimeout, responseTimeout, mismatched, unsolicited, recovered, frameEnded, wrong, renewed}
 use Rattle.booking.specs.Rule.{noteAnswer}
 use Rattle.booking.proofs.Framing.{Holds, holds-nothing, after-cut, byted}
 use Rattle.booking.proofs.Tallies.{wrapping, saturating}
@@ -67,7 +67,7 @@ lineAt h = lineOf (pendingFrom (openRequest h) (startedAt h) (latestFrame h))
 abbrev pub wireStats : Past → ParserStats
 wireStats h =
     record {
-      «valid_frames» = saturating framed h;
+      «valid_frames» = saturating frameEnded h;
       «crc_failures» = saturating wrong h;
       «discarded_bytes» = saturating wrong h;
     }
@@ -158,19 +158,19 @@ unfolding turn lastQueued openRequest faulted quietSince retries note wrapping s
 manager-new o = refl
 
 -- small facts about the parts
-pub heard-is : (f : Bool) (q r t : ℕ) → heardAt (faultOf f q r) t ≡ faultOf f (pick f (max q t) q) r
-unfolding heardAt
+pub heard-is : (f : Bool) (q r t : ℕ) → afterHearing (faultOf f q r) t ≡ faultOf f (pick f (max q t) q) r
+unfolding afterHearing
 heard-is true q r t = refl
 heard-is false q r t = refl
 
 pub delivered-is : (c : EscManagerConfig) (b : ℕ) (t : Turn) (l : Line) (f : Bool) (q r : ℕ) (n : Option ℕ) (p : StreamParser) (s : EscManagerStats)
-    → delivered (managerOf c b t l (faultOf f q r) (noted (noteAnswer n)) p s)
+    → closedBySample (managerOf c b t l (faultOf f q r) (noted (noteAnswer n)) p s)
     ≡ managerOf c b t closedLine (faultOf f q 0) (noted (noteAnswer (pick (eqb r 0) n (some r)))) p s
-unfolding delivered
+unfolding closedBySample
 delivered-is c b t l f q r n p s = go (eqb r 0) refl
   where
     go : (z : Bool) → eqb r 0 ≡ z
-        → delivered (managerOf c b t l (faultOf f q r) (noted (noteAnswer n)) p s)
+        → closedBySample (managerOf c b t l (faultOf f q r) (noted (noteAnswer n)) p s)
         ≡ managerOf c b t closedLine (faultOf f q 0) (noted (noteAnswer (pick z n (some r)))) p s
     go true e = rw (eqb-true r 0 e)
     go false e = rw e

@@ -17,12 +17,12 @@ use Rattle.esc_feedback.specs.declared.output.Lane.{Lane}
 use Rattle.esc_feedback.specs.declared.output.Lane.the-variants.{Output1, Output2, Output3, Output4}
 use Rattle.esc_feedback.specs.declared.answer.NextRequest.the-variants as next
 use Rattle.esc_feedback.specs.Fault.{quietWindow, mayRecover}
-use Rattle.esc_feedback.specs.Manager.{delivered, takeBack}
+use Rattle.esc_feedback.specs.Manager.{closedBySample, takeBack}
 use Rattle.esc_feedback.specs.Queueing.{requestExists, nextRequest, markQueued}
 use Rattle.esc_feedback.specs.Ack.{ackOn, onAck}
 use Rattle.esc_feedback.specs.Timeout.{polledOn, pollTimeout}
 use Rattle.esc_feedback.specs.Wire.{framedOn, receivedOn, pushWire, cutWire, refreshed}
-use Rattle.esc_feedback.specs.Recovery.{recovered, tryRecover}
+use Rattle.esc_feedback.specs.Recovery.{recoveredManager, tryRecover}
 use Rattle.esc_feedback.specs.declared.request.EscActuatorRequest.{EscActuatorRequest}
 use Rattle.esc_feedback.specs.declared.request.EscActuatorAck.{EscActuatorAck}
 use Rattle.esc_feedback.specs.declared.request.EscTelemetryUpdate.{EscTelemetryUpdate}
@@ -37,7 +37,7 @@ use Rattle.base.specs.Maybe.{is, earliest, onlyIf}
 use Rattle.booking.specs.History.{Opening, Timed, Requests, Wire, Idle, Past}
 use Rattle.booking.specs.Wire.{Frame, timed, wire, frameAt}
 use Rattle.booking.specs.Booking.{equal, booked, bookedTo, openRequest, startedAt, latestFrame, newlyStarted, startedRequest}
-use Rattle.booking.specs.Faults.{faulted, quietSince, retries, note, expired, recovers}
+use Rattle.booking.specs.Faults.{faulted, quietSince, retries, note, timeoutFor, recovers}
 use Rattle.booking.specs.Turns.{following, turn, lastQueued, dueSince, existing, names}
 use Rattle.booking.specs.Counts.{renewed}
 use Rattle.booking.specs.Rule.{nextAnswer}
@@ -187,10 +187,10 @@ module _ (o : Opening) (h : Past) (p : StreamParser) (i : ParserAt h p) where
   abbrev PollOk : ℕ → Idle → Type 0
   PollOk now d =
       pollTimeout (managerAt o h p) now
-      ≡ record { manager = managerAt o (event (timing (seenTimeout (expired o h now))) noWire now false d ∷ h) p; answer = expired o h now }
+      ≡ record { manager = managerAt o (event (timing (seenTimeout (timeoutFor o h now))) noWire now false d ∷ h) p; answer = timeoutFor o h now }
 
   poll-open : (now : ℕ) (d : Idle) → Open h → PollOk now d
-  unfolding pollTimeout polledOn expired turn lastQueued openRequest startedAt latestFrame faulted quietSince retries note wrapping saturating renewed
+  unfolding pollTimeout polledOn timeoutFor turn lastQueued openRequest startedAt latestFrame faulted quietSince retries note wrapping saturating renewed
   poll-open now d (nothing e) = rw e
   poll-open now d (waiting q e s) = go (due (q .at) now (o .config .«actuator_ack_timeout_ms»)) refl
     where
@@ -270,7 +270,7 @@ module _ (o : Opening) (h : Past) (p : StreamParser) (i : ParserAt h p) where
   recover-by : (armed : Bool) (now : ℕ)
       → tryRecover (managerAt o h p) now armed
       ≡ pick (recovers o h armed now)
-      (record { manager = recovered (managerAt o h p); answer = true })
+      (record { manager = recoveredManager (managerAt o h p); answer = true })
       (record { manager = managerAt o h p; answer = false })
   unfolding tryRecover mayRecover quietWindow recovers
   recover-by armed now = refl

@@ -23,7 +23,7 @@ use Rattle.esc_records.specs.declared.record.Record.{Record}
 use Rattle.esc_records.specs.declared.answer.Answer.{Answer}
 use Rattle.esc_records.specs.declared.answer.IdleAnswer.the-variants.{NoCheck, Status}
 use Rattle.booking.specs.History.{Call, Check, Seen, seen, saidBy, Past, Since, since}
-use Rattle.booking.specs.IdleRule.{check, verdict, valid, pastGrace, erpm, fresh, joined, runAt, run as laneRun, tally, settled, judgedAt}
+use Rattle.booking.specs.IdleRule.{check, verdict, valid, pastGrace, erpm, fresh, joined, streakAt, run as laneRun, tally, settled, judgedAt}
 use Rattle.booking.specs.Rule.{answerTo, withRoom, ruleFor}
 use Rattle.booking.specs.Run.{run}
 use Rattle.booking.specs.Qualified.{counted, Earned, QualifiedOnlyIf}
@@ -78,7 +78,7 @@ module _ (k : Check) (now : ℕ) where
       (ltb 0 (c .«required_consecutive_samples»)) v)
 
   enough : (x : Option EscTelemetryUpdate) (f : Lane → List EscTelemetryUpdate) → valid (k .config) ≡ true → qualified (judgedAt k x now f) ≡ true
-      → Enough k now (λ l. runAt k x now l (f l))
+      → Enough k now (λ l. streakAt k x now l (f l))
   enough none f v e = record { needed = needed-by v; looked = f; aged = λ l. refl; long = long-each (λ l. fresh (k .config) now (f l)) e }
   enough (some u) f v e = go (pastGrace k now) (ltb (k .config .«max_erpm_div100») (erpm u)) e
     where
@@ -96,10 +96,10 @@ module _ (k : Check) (now : ℕ) where
           }
 
 -- the settings are looked at first
-enough-said : (k : Check) (x : Option EscTelemetryUpdate) (now : ℕ) (f : Lane → List EscTelemetryUpdate) → says k x now f ≡ Qualified → Enough k now (λ l. runAt k x now l (f l))
+enough-said : (k : Check) (x : Option EscTelemetryUpdate) (now : ℕ) (f : Lane → List EscTelemetryUpdate) → says k x now f ≡ Qualified → Enough k now (λ l. streakAt k x now l (f l))
 enough-said k x now f e = go (valid (k .config)) refl (ap qualified e)
   where
-    go : (v : Bool) → valid (k .config) ≡ v → qualified (pick v (judgedAt k x now f) (Failed InvalidConfig)) ≡ true → Enough k now (λ l. runAt k x now l (f l))
+    go : (v : Bool) → valid (k .config) ≡ v → qualified (pick v (judgedAt k x now f) (Failed InvalidConfig)) ≡ true → Enough k now (λ l. streakAt k x now l (f l))
     go true ok z = enough k now x f ok z
     go false ok z = absurd (false≢true z)
 

@@ -23,7 +23,7 @@ use Rattle.booking.specs.Wire.{wire, latest, frameAt}
 use Rattle.booking.specs.Booking.{openRequest, startedAt, latestFrame, newlyStarted, startedRequest}
 use Rattle.booking.specs.Faults.{faulted}
 use Rattle.booking.specs.Turns.{turn, lastQueued, existing}
-use Rattle.booking.specs.IdleRule.{check, verdict, valid, erpm, run, judged}
+use Rattle.booking.specs.IdleRule.{check, verdict, valid, erpm, streak, judged}
 use Rattle.booking.specs.Qualified.{counted}
 use Rattle.booking.specs.Rule.{ruleFor, traceOf}
 use Rattle.booking.proofs.Session.{roomy}
@@ -84,7 +84,7 @@ pub statuses : (last (opening ∷ asking 5 ∷ []) ≡ some NoCheck)
     × (last (opening ∷ checking 0 1 ∷ asking 5 ∷ []) ≡ some (Status (Failed InvalidConfig)))
     × (last (opening ∷ checking 30 1 ∷ reading 0 0 60 20 ++ reading 1 1 101 20) ≡ some (Status (Failed (Overspeed (record { 0 = Output2 }) 101))))
     × (last (opening ∷ checking 30 1 ∷ reading 0 0 60 750 ++ (reading 1 1 60 850 ++ (reading 2 2 29 900 ++ (asking 1000 ∷ [])))) ≡ some (Status (Failed (Timeout 0 1 0 0))))
-unfolding numberAt bytesOf crcBit crcBits crcByte crcFrom crcOf telemetryOf payloadOf due recordOf readRecord requestBytes sampleBytes deliveredBytes failureBytes idleBytes ackBytes wireBytes bodyBytes answerBytes since wire latest frameAt openRequest startedAt latestFrame newlyStarted startedRequest faulted turn lastQueued existing check verdict valid run judged ruleFor traceOf
+unfolding numberAt bytesOf crcBit crcBits crcByte crcFrom crcOf telemetryOf payloadOf due recordOf readRecord requestBytes sampleBytes deliveredBytes failureBytes idleBytes ackBytes wireBytes bodyBytes answerBytes since wire latest frameAt openRequest startedAt latestFrame newlyStarted startedRequest faulted turn lastQueued existing check verdict valid streak judged ruleFor traceOf
 statuses = (refl, refl, refl, refl, refl, refl)
 
 abbrev pastOf : Option Since → Past
@@ -102,5 +102,5 @@ before (e ∷ h) = h
 pub first : (verdict (before (after qualifying)) ≡ none)
     × (map (λ (l : Lane). map erpm (counted (after qualifying) l)) (Output1 ∷ Output2 ∷ Output3 ∷ Output4 ∷ [])
     ≡ (60 ∷ 60 ∷ []) ∷ (60 ∷ 60 ∷ 29 ∷ []) ∷ (100 ∷ 100 ∷ []) ∷ (30 ∷ 30 ∷ []) ∷ [])
-unfolding numberAt bytesOf crcBit crcBits crcByte crcFrom crcOf telemetryOf payloadOf due recordOf readRecord requestBytes sampleBytes deliveredBytes failureBytes idleBytes ackBytes wireBytes bodyBytes answerBytes since wire latest frameAt openRequest startedAt latestFrame newlyStarted startedRequest faulted turn lastQueued existing check verdict valid run judged counted ruleFor traceOf
+unfolding numberAt bytesOf crcBit crcBits crcByte crcFrom crcOf telemetryOf payloadOf due recordOf readRecord requestBytes sampleBytes deliveredBytes failureBytes idleBytes ackBytes wireBytes bodyBytes answerBytes since wire latest frameAt openRequest startedAt latestFrame newlyStarted startedRequest faulted turn lastQueued existing check verdict valid streak judged counted ruleFor traceOf
 first = (refl, refl)

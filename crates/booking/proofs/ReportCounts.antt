@@ -10,14 +10,14 @@ use Rattle.esc_records.specs.declared.answer.UnitReport.{UnitReport}
 use Rattle.esc_records.specs.declared.answer.Answer.{Answer}
 use Rattle.esc_records.specs.declared.answer.Answer.the-variants as answer
 use Rattle.booking.specs.History.{Opening, Past, Since, since}
-use Rattle.booking.specs.Counts.{reportOf}
+use Rattle.booking.specs.Counts.{reportFor}
 use Rattle.booking.specs.Rule.{answerTo, replyTo}
 use Rattle.booking.specs.Run.{run}
 use Rattle.booking.specs.Claims.{pastOf, Reported, ReportCounts}
 use Rattle.booking.proofs.Accepted.{refused-accepted, accepted-is, accepted-by-rule, refused-reply}
 
-reported : (h : Past) → Reported h (reportOf h)
-unfolding reportOf
+reported : (h : Past) → Reported h (reportFor h)
+unfolding reportFor
 reported h = record { queues = refl; starts = refl; ackTimeouts = refl; responseTimeouts = refl; mismatches = refl; recoveries = refl }
 
 abbrev isReport : Answer → Bool
@@ -52,7 +52,7 @@ by-answer o h kind.TakeBackAfterRetries r e = other _ r refl e
 by-answer o h kind.RefreshWireStats r e = other _ r refl e
 by-answer o h (kind.IdleCheck c t) r e = other _ r refl e
 by-answer o h (kind.IdleStatus now) r e = other _ r refl e
-by-answer o h kind.Report r e = subst (Reported h) (report-is (reportOf h) r e) (reported h)
+by-answer o h kind.Report r e = subst (Reported h) (report-is (reportFor h) r e) (reported h)
 by-answer o h (kind.StoredSample l) r e = other _ r refl e
 by-answer o h (kind.Figures l) r e = other _ r refl e
 

@@ -9,7 +9,7 @@ use Rattle.esc_records.specs.Answer.{requestBytes, nextBytes, timeoutBytes, bod
 use Rattle.booking.specs.History.{Call, Event, since}
 use Rattle.booking.specs.Wire.{wire, latest, frameAt}
 use Rattle.booking.specs.Booking.{openRequest, startedAt}
-use Rattle.booking.specs.Faults.{faulted, quietSince, retries, expired, recovers}
+use Rattle.booking.specs.Faults.{faulted, quietSince, retries, timeoutFor, recovers}
 use Rattle.booking.specs.Turns.{turn, lastQueued, existing}
 use Rattle.booking.specs.Rule.{ruleFor, traceOf}
 
@@ -40,5 +40,5 @@ pub session : replies
     ∷ (0x00 ∷ 0x00 ∷ [])
     ∷ (0x00 ∷ 0x01 ∷ [])
     ∷ []
-unfolding numberAt bytesOf due recordOf readRecord requestBytes nextBytes timeoutBytes bodyBytes answerBytes replyBytes since wire latest frameAt openRequest startedAt faulted quietSince retries expired recovers turn lastQueued existing ruleFor traceOf
+unfolding numberAt bytesOf due recordOf readRecord requestBytes nextBytes timeoutBytes bodyBytes answerBytes replyBytes since wire latest frameAt openRequest startedAt faulted quietSince retries timeoutFor recovers turn lastQueued existing ruleFor traceOf
 session = refl

@@ -16,10 +16,10 @@ use Rattle.esc_records.specs.Answer.{requestBytes, sampleBytes, deliveredBytes,
 use Rattle.booking.specs.History.{since}
 use Rattle.booking.specs.Wire.{wire, latest, frameAt}
 use Rattle.booking.specs.Booking.{openRequest, startedAt, latestFrame, newlyStarted, startedRequest}
-use Rattle.booking.specs.Faults.{faulted, quietSince, retries, expired, recovers, note}
+use Rattle.booking.specs.Faults.{faulted, quietSince, retries, timeoutFor, recovers, note}
 use Rattle.booking.specs.Turns.{turn, lastQueued, existing}
-use Rattle.booking.specs.IdleRule.{check, verdict, run, judged}
-use Rattle.booking.specs.Samples.{stored, given}
+use Rattle.booking.specs.IdleRule.{check, verdict, streak, judged}
+use Rattle.booking.specs.Samples.{stored, deliveredOn}
 use Rattle.booking.specs.Rule.{ruleFor, traceOf}
 use Rattle.booking.specs.ShownNewest.{sinceRecovery, newestDelivered}
 use Rattle.booking.proofs.Live.{open′, queue, acknowledge, poll, recover, frame, Reading, reading, booked′, pastBy, lastReply}
@@ -54,7 +54,7 @@ pub newest-live : (newest Output1 flight ≡ some (booked′ 0 4 5 64))
     × (newest Output1 (flight ++ recovery) ≡ none)
     × (newest Output2 (flight ++ (recovery ++ later)) ≡ none)
     × (newest Output3 (flight ++ (recovery ++ later)) ≡ some (booked′ 2 6 527 65))
-unfolding numberAt bytesOf crcBit crcBits crcByte crcFrom crcOf telemetryOf payloadOf due recordOf readRecord requestBytes sampleBytes deliveredBytes failureBytes idleBytes nextBytes ackBytes wireBytes timeoutBytes bodyBytes answerBytes since wire latest frameAt openRequest startedAt latestFrame newlyStarted startedRequest faulted quietSince retries expired recovers note turn lastQueued existing check verdict run judged ruleFor traceOf given sinceRecovery
+unfolding numberAt bytesOf crcBit crcBits crcByte crcFrom crcOf telemetryOf payloadOf due recordOf readRecord requestBytes sampleBytes deliveredBytes failureBytes idleBytes nextBytes ackBytes wireBytes timeoutBytes bodyBytes answerBytes since wire latest frameAt openRequest startedAt latestFrame newlyStarted startedRequest faulted quietSince retries timeoutFor recovers note turn lastQueued existing check verdict streak judged ruleFor traceOf deliveredOn sinceRecovery
 newest-live = (refl, refl, refl, refl, refl)
 
 -- and the answers: 00 none, or 01 sample
@@ -69,5 +69,5 @@ pub shown-live : (lastReply (flight ++ show 0 ∷ []) ≡ sample 0 4 5 64)
     × (lastReply (flight ++ (recovery ++ show 0 ∷ [])) ≡ none′)
     × (lastReply (flight ++ (recovery ++ (later ++ show 1 ∷ []))) ≡ none′)
     × (lastReply (flight ++ (recovery ++ (later ++ show 2 ∷ []))) ≡ sample 2 6 527 65)
-unfolding numberAt bytesOf crcBit crcBits crcByte crcFrom crcOf telemetryOf payloadOf due recordOf readRecord requestBytes sampleBytes deliveredBytes failureBytes idleBytes nextBytes ackBytes wireBytes timeoutBytes storedBytes bodyBytes answerBytes replyBytes since wire latest frameAt openRequest startedAt latestFrame newlyStarted startedRequest faulted quietSince retries expired recovers note turn lastQueued existing check verdict run judged ruleFor traceOf stored
+unfolding numberAt bytesOf crcBit crcBits crcByte crcFrom crcOf telemetryOf payloadOf due recordOf readRecord requestBytes sampleBytes deliveredBytes failureBytes idleBytes nextBytes ackBytes wireBytes timeoutBytes storedBytes bodyBytes answerBytes replyBytes since wire latest frameAt openRequest startedAt latestFrame newlyStarted startedRequest faulted quietSince retries timeoutFor recovers note turn lastQueued existing check verdict streak judged ruleFor traceOf stored
 shown-live = (refl, refl, refl, refl, refl)

@@ -14,7 +14,7 @@ use Rattle.esc_records.specs.declared.record.Record.the-variants as kind
 use Rattle.esc_records.specs.declared.answer.Answer.{Answer}
 use Rattle.esc_records.specs.declared.answer.Answer.the-variants as answer
 use Rattle.booking.specs.History.{Seen, Past, Since, since}
-use Rattle.booking.specs.Samples.{stored, given}
+use Rattle.booking.specs.Samples.{stored, deliveredOn}
 use Rattle.booking.specs.Rule.{storedAnswerOf, replyTo}
 use Rattle.booking.specs.Run.{run}
 use Rattle.booking.specs.Claims.{pastOf}
@@ -23,11 +23,11 @@ use Rattle.booking.proofs.Accepted.{refused-accepted, accepted-is, acce
 
 -- one record more
 newer : (e : Seen) (h : Past) (l : Lane) → stored h l ≡ newestDelivered l h → stored (e ∷ h) l ≡ newestDelivered l (e ∷ h)
-unfolding stored given sinceRecovery
+unfolding stored deliveredOn sinceRecovery
 newer e h l before = go (e .requests .recovered) refl (e .requests .delivered) refl
   where
     older : List EscTelemetryUpdate
-    older = given (sinceRecovery h) l
+    older = deliveredOn (sinceRecovery h) l
 
     lane : (u : EscTelemetryUpdate) (z : Bool) → pick z (some u) (newestOf older) ≡ newestOf (pick z (u ∷ older) older)
     lane u true = refl
@@ -40,7 +40,7 @@ newer e h l before = go (e .requests .recovered) refl (e .requests .delivered) r
     go false r (some u) k = rw (r, k, before) (lane u (eqb (laneOf (u .output)) (laneNumber l)))
 
 stored-newest : (h : Past) (l : Lane) → stored h l ≡ newestDelivered l h
-unfolding stored given sinceRecovery
+unfolding stored deliveredOn sinceRecovery
 stored-newest [] l = refl
 stored-newest (e ∷ h) l = newer e h l (stored-newest h l)
 

@@ -15,7 +15,7 @@ use Rattle.esc_records.specs.declared.answer.IdleAnswer.{IdleAnswer}
 use Rattle.esc_records.specs.declared.answer.IdleAnswer.the-variants.{NoCheck, Status}
 use Rattle.base.specs.Maybe.{earliest}
 use Rattle.booking.specs.History.{Opening, Check, Seen, seen, Past}
-use Rattle.booking.specs.IdleRule.{check, verdictIn, verdict, valid, pastGrace, erpm, runAt, run as laneRun, settled, judgedAt, judged}
+use Rattle.booking.specs.IdleRule.{check, verdictIn, verdict, valid, pastGrace, erpm, streakAt, run as laneRun, settled, judgedAt, judged}
 use Rattle.booking.specs.Rule.{answerTo}
 use Rattle.booking.specs.Qualified.{counted}
 use Rattle.booking.proofs.Lawful.{Lawful, start, more}
@@ -35,7 +35,7 @@ says k x now f = pick (valid (k .config)) (judgedAt k x now f) (Failed InvalidCo
 not-over : (k : Check) (x : Option EscTelemetryUpdate) (now : ℕ) (f : Lane → List EscTelemetryUpdate) → failed (says k x now f) ≡ false → over k x now ≡ false
 not-over k none now f e = refl
 not-over k (some u) now f e =
-    go (valid (k .config)) (pastGrace k now) (ltb (k .config .«max_erpm_div100») (erpm u)) (settled k now (λ l. runAt k (some u) now l (f l))) e
+    go (valid (k .config)) (pastGrace k now) (ltb (k .config .«max_erpm_div100») (erpm u)) (settled k now (λ l. streakAt k (some u) now l (f l))) e
   where
     go : (v g m : Bool) (w : EscIdleQualificationStatus)
         → failed (pick v (pick g (pick m (Failed (Overspeed (u .output) (erpm u))) w) Pending) (Failed InvalidConfig)) ≡ false → (g && m) ≡ false
@@ -59,7 +59,7 @@ unchecked h x now c = rw c
 -- a lane after a sample or a 0b that did not fail
 module _ (h : Past) (i : Sound h) (e : Seen) (n : e .idle .check ≡ none) (k : Check) (c : check h ≡ some k) (v : verdict h ≡ none) where
   pub asked-newest : failed (says k (e .requests .delivered) (e .now) (laneRun h)) ≡ false
-      → (l : Lane) → Newest (k .config) (runAt k (e .requests .delivered) (e .now) l (laneRun h l)) (counted (e ∷ h) l)
+      → (l : Lane) → Newest (k .config) (streakAt k (e .requests .delivered) (e .now) l (laneRun h l)) (counted (e ∷ h) l)
   unfolding counted
   asked-newest f l =
       rw (n, v, c)
@@ -76,7 +76,7 @@ unfailed Qualified e = refl
 unfailed (Failed f) e = absurd (Option·none-ne-some (Failed f) (sym e))
 
 asked-run : (h : Past) (e : Seen) (k : Check) (a : IdleAnswer) (l : Lane) → e .idle .check ≡ none → e .idle .status ≡ some a → check h ≡ some k
-    → laneRun (e ∷ h) l ≡ runAt k (e .requests .delivered) (e .now) l (laneRun h l)
+    → laneRun (e ∷ h) l ≡ streakAt k (e .requests .delivered) (e .now) l (laneRun h l)
 unfolding laneRun
 asked-run h e k a l n s c = rw (n, s, c)
 

@@ -6,22 +6,22 @@ use Prim.Native.Nat.{ℕ, _+_}
 use native.Mathlib.Omega.{arith}
 use Rattle.esc_feedback.specs.Stats.{more}
 use Rattle.booking.specs.History.{Past}
-use Rattle.booking.specs.Counts.{Test, one, count, wraps, saturates}
+use Rattle.booking.specs.Counts.{SeenTest, one, count, wraps, saturates}
 use Rattle.booking.proofs.Framing.{risesIf}
 
 abbrev pub moreIf : Bool → ℕ → ℕ
 moreIf true n = more n
 moreIf false n = n
 
-unfoldable pub wrapping : Test → Past → ℕ
+unfoldable pub wrapping : SeenTest → Past → ℕ
 wrapping t [] = 0
 wrapping t (e ∷ h) = moreIf (t h e) (wrapping t h)
 
-unfoldable pub saturating : Test → Past → ℕ
+unfoldable pub saturating : SeenTest → Past → ℕ
 saturating t [] = 0
 saturating t (e ∷ h) = risesIf (t h e) (saturating t h)
 
-pub wrapping-is : (t : Test) (h : Past) → wrapping t h ≡ wraps (count t h)
+pub wrapping-is : (t : SeenTest) (h : Past) → wrapping t h ≡ wraps (count t h)
 unfolding wrapping count
 wrapping-is t [] = refl
 wrapping-is t (e ∷ h) = go (wrapping-is t h) (t h e)
@@ -30,7 +30,7 @@ wrapping-is t (e ∷ h) = go (wrapping-is t h) (t h e)
     go k true = omega arith
     go k false = omega arith
 
-pub saturating-is : (t : Test) (h : Past) → saturating t h ≡ saturates (count t h)
+pub saturating-is : (t : SeenTest) (h : Past) → saturating t h ≡ saturates (count t h)
 unfolding saturating count
 saturating-is t [] = refl
 saturating-is t (e ∷ h) = go (saturating-is t h) (t h e)

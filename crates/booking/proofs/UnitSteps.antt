@@ -15,7 +15,7 @@ use Rattle.esc_feedback.specs.declared.answer.EscManagerTimeout.{EscManagerTime
 use Rattle.esc_feedback.specs.declared.answer.EscManagerTimeout.the-variants as timeout
 use Rattle.esc_feedback.specs.declared.manager.EscManager.{EscManager}
 use Rattle.esc_unit.specs.Books.{noBooks, bookedIn, idleStatus}
-use Rattle.esc_unit.specs.Unit.{unitOf, stepped, ackedOn, receivedOn, recoveredOn, reportOf as unitReport, stepOf, opens}
+use Rattle.esc_unit.specs.Unit.{unitOf, stepped, ackedOn, wireStepped, recoveredOn, reportFor as unitReport, stepOf, opens}
 use Rattle.esc_records.specs.declared.record.Record.{Record}
 use Rattle.esc_records.specs.declared.record.Record.the-variants as kind
 use Rattle.esc_records.specs.declared.answer.IdleAnswer.{IdleAnswer}
@@ -30,10 +30,10 @@ use Rattle.base.specs.Maybe.{is, orElse, onlyIf}
 use Rattle.booking.specs.History.{Opening, Timed, Wire, Idle, Seen, seen, Past}
 use Rattle.booking.specs.Wire.{Frame}
 use Rattle.booking.specs.Booking.{booked, bookedTo, openRequest, latestFrame, newlyStarted}
-use Rattle.booking.specs.Faults.{faulted, expired, recovers}
+use Rattle.booking.specs.Faults.{faulted, timeoutFor, recovers}
 use Rattle.booking.specs.Turns.{existing, names}
 use Rattle.booking.specs.IdleRule.{judged}
-use Rattle.booking.specs.Counts.{queued, started, ackTimeout, responseTimeout, mismatched, unsolicited, recovered, framed, wrong, renewed, reportOf}
+use Rattle.booking.specs.Counts.{queued, started, ackTimeout, responseTimeout, mismatched, unsolicited, recovered, frameEnded, wrong, renewed, reportFor}
 use Rattle.booking.specs.Rule.{ackAnswer, wireAnswerOf, answerTo}
 use Rattle.booking.proofs.Tallies.{wrapping-is, saturating-is}
 use Rattle.booking.proofs.ManagerState.{managerAt, ParserAt, event, byteSeen, noWire, parser-byte, parser-same, parser-cut, parser-new, manager-new}
@@ -109,8 +109,8 @@ module _ (o : Opening) (h : Past) (p : StreamParser) (b : Books) (parser : Parse
             (same h b books _ refl refl refl refl));
       }
 
-  report-is : unitReport m ≡ reportOf h
-  unfolding reportOf
+  report-is : unitReport m ≡ reportFor h
+  unfolding reportFor
   report-is =
       rw (
         wrapping-is queued h,
@@ -120,7 +120,7 @@ module _ (o : Opening) (h : Past) (p : StreamParser) (b : Books) (parser : Parse
         wrapping-is mismatched h,
         wrapping-is unsolicited h,
         wrapping-is recovered h,
-        saturating-is framed (renewed h),
+        saturating-is frameEnded (renewed h),
         saturating-is wrong (renewed h),
       )
 
@@ -205,9 +205,9 @@ module _ (o : Opening) (h : Past) (p : StreamParser) (b : Books) (parser : Parse
   polled-on now (timeout.TelemetryResponse q) =
       record { answers = refl; unit = leaves _ _ p b refl refl (parser-same h p _ false now false _ parser) (same h b books _ refl refl refl refl) }
 
-  polled : (now : ℕ) → StepOk o h (kind.PollTimeout now) (answer.Timeout (expired o h now)) (stepOf m b (kind.PollTimeout now))
+  polled : (now : ℕ) → StepOk o h (kind.PollTimeout now) (answer.Timeout (timeoutFor o h now)) (stepOf m b (kind.PollTimeout now))
   unfolding stepOf
-  polled now = rw (poll-ok o h p parser now (record { check = none; status = none })) (polled-on now (expired o h now))
+  polled now = rw (poll-ok o h p parser now (record { check = none; status = none })) (polled-on now (timeoutFor o h now))
 
   -- 05
   abbrev wireEvent : ℕ → ℕ → Option EscTelemetryUpdate → Seen
@@ -216,7 +216,7 @@ module _ (o : Opening) (h : Past) (p : StreamParser) (b : Books) (parser : Parse
   received-on : (x now : ℕ) (u : Option EscTelemetryUpdate)
       → StepOk o h (kind.WireByte x now)
       (answer.Wire (wireAnswerOf u (λ v. judged h (some v) now)))
-      (receivedOn (managerAt o (wireEvent x now u ∷ h) (pushOf p x .parser)) b now (updateAnswer u))
+      (wireStepped (managerAt o (wireEvent x now u ∷ h) (pushOf p x .parser)) b now (updateAnswer u))
   received-on x now none =
       record {
         answers = refl;

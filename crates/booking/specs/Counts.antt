@@ -15,14 +15,14 @@ use Rattle.booking.specs.Booking.{openRequest}
 use Rattle.booking.specs.Faults.{faulted, retries}
 
 -- a test on what was seen, given what came before it
-abbrev pub Test : Type 0
-Test = Past → Seen → Bool
+abbrev pub SeenTest : Type 0
+SeenTest = Past → Seen → Bool
 
 abbrev pub one : Bool → ℕ
 one true = 1
 one false = 0
 
-unfoldable pub count : Test → Past → ℕ
+unfoldable pub count : SeenTest → Past → ℕ
 count t [] = 0
 count t (e ∷ h) = one (t h e) + count t h
 
@@ -39,47 +39,47 @@ isResponse (some (ActuatorAck q)) = false
 isResponse (some (TelemetryResponse q)) = true
 
 -- the 02s answered yes
-abbrev pub queued : Test
+abbrev pub queued : SeenTest
 queued h e = is (e .requests .granted)
 
 -- the 03s accepted or answered with a sample
-abbrev pub started : Test
+abbrev pub started : SeenTest
 started h e = e .requests .started
 
 -- the 03s rejected
-abbrev pub mismatched : Test
+abbrev pub mismatched : SeenTest
 mismatched h e = is (e .requests .acknowledged) && not (e .requests .started)
 
 -- the 04s answered with a timeout
-abbrev pub ackTimeout : Test
+abbrev pub ackTimeout : SeenTest
 ackTimeout h e = isAck (e .requests .timeout)
 
-abbrev pub responseTimeout : Test
+abbrev pub responseTimeout : SeenTest
 responseTimeout h e = isResponse (e .requests .timeout)
 
 -- the 03s and 05s answered with a sample
-abbrev pub delivered : Test
+abbrev pub delivered : SeenTest
 delivered h e = is (e .requests .delivered)
 
 -- the 07s answered yes
-abbrev pub recovered : Test
+abbrev pub recovered : SeenTest
 recovered h e = e .requests .recovered
 
 -- the parser's samples, and its ten bytes with a wrong check byte
-abbrev pub framed : Test
-framed h e = is (frameIn (wire h) (e .wire .byte))
+abbrev pub frameEnded : SeenTest
+frameEnded h e = is (frameIn (wire h) (e .wire .byte))
 
-abbrev pub wrong : Test
+abbrev pub wrong : SeenTest
 wrong h e = wrongIn (wire h) (e .wire .byte)
 
 -- a frame with nothing open is unsolicited
-abbrev pub unsolicited : Test
-unsolicited h e = framed h e && not (is (openRequest h))
+abbrev pub unsolicited : SeenTest
+unsolicited h e = frameEnded h e && not (is (openRequest h))
 
 -- the manager's copy of the parser's counts is renewed only when the parser gives a sample and by 09: what came up to then
 unfoldable pub renewed : Past → Past
 renewed [] = []
-renewed (e ∷ h) = pick (framed h e || e .wire .refreshed) (e ∷ h) (renewed h)
+renewed (e ∷ h) = pick (frameEnded h e || e .wire .refreshed) (e ∷ h) (renewed h)
 
 -- own counts wrap at 2^32, the parser's saturate
 abbrev pub wraps : ℕ → ℕ
@@ -88,8 +88,8 @@ wraps n = n % 2 ^ 32
 abbrev pub saturates : ℕ → ℕ
 saturates n = min n (2 ^ 32 - 1)
 
-unfoldable pub reportOf : Past → UnitReport
-reportOf h =
+unfoldable pub reportFor : Past → UnitReport
+reportFor h =
     record {
       faulted = faulted h;
       retrying = not (eqb (retries h) 0);
@@ -104,7 +104,7 @@ reportOf h =
             recoveries = wraps (count recovered h);
             wire =
                 record {
-                  «valid_frames» = saturates (count framed (renewed h));
+                  «valid_frames» = saturates (count frameEnded (renewed h));
                   «crc_failures» = saturates (count wrong (renewed h));
                   «discarded_bytes» = saturates (count wrong (renewed h));
                 };

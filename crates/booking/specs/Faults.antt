@@ -17,10 +17,10 @@ unfoldable pub faulted : Past → Bool
 faulted [] = false
 faulted (e ∷ h) = pick (is (e .requests .timeout)) true (pick (e .requests .recovered) false (faulted h))
 
-abbrev heardAt : Option Timed → Option Byte → Option ℕ
-heardAt (some a) b = some (a .at)
-heardAt none none = none
-heardAt none (some b) = some (b .at)
+abbrev heardIn : Option Timed → Option Byte → Option ℕ
+heardIn (some a) b = some (a .at)
+heardIn none none = none
+heardIn none (some b) = some (b .at)
 
 abbrev later : Bool → Option ℕ → ℕ → ℕ
 later f none q = q
@@ -30,7 +30,7 @@ later f (some t) q = pick f (max q t) q
 unfoldable pub quietSince : Past → ℕ
 quietSince [] = 0
 quietSince (e ∷ h) =
-    pick (is (e .requests .timeout)) (e .now) (later (faulted h) (heardAt (e .requests .acknowledged) (e .wire .byte)) (quietSince h))
+    pick (is (e .requests .timeout)) (e .now) (later (faulted h) (heardIn (e .requests .acknowledged) (e .wire .byte)) (quietSince h))
 
 -- recovery adds one to retries (saturating); only a delivered sample clears them
 unfoldable pub retries : Past → ℕ
@@ -56,8 +56,8 @@ expiryOf o h (some q) now = expiry o q (startedAt h (q .request)) now
 
 -- 04 reports an acknowledgement timeout when the open request has had no equal 03 and Due(T of its 02, now, acknowledgement
 -- timeout); after that 03, a response timeout when Due(started T of the 03, now, response timeout); otherwise none
-unfoldable pub expired : Opening → Past → ℕ → EscManagerTimeout
-expired o h now = expiryOf o h (openRequest h) now
+unfoldable pub timeoutFor : Opening → Past → ℕ → EscManagerTimeout
+timeoutFor o h now = expiryOf o h (openRequest h) now
 
 -- recovery needs faulted, disarmed, and now minus quiet start (0 if negative) at least quiet × 2^min(retries, 3)
 unfoldable pub recovers : Opening → Past → Bool → ℕ → Bool

@@ -160,11 +160,11 @@ acknowledged k s =
       recovered = false;
     }
 
-abbrev timedOut : Option EscManagerTimeout → Requests
-timedOut t = record { granted = none; acknowledged = none; started = false; delivered = none; timeout = t; recovered = false }
+abbrev timeoutSeen : Option EscManagerTimeout → Requests
+timeoutSeen t = record { granted = none; acknowledged = none; started = false; delivered = none; timeout = t; recovered = false }
 
-abbrev delivered : Option EscTelemetryUpdate → Requests
-delivered u = record { granted = none; acknowledged = none; started = false; delivered = u; timeout = none; recovered = false }
+abbrev sampleSeen : Option EscTelemetryUpdate → Requests
+sampleSeen u = record { granted = none; acknowledged = none; started = false; delivered = u; timeout = none; recovered = false }
 
 abbrev recoveredIf : Bool → Requests
 recoveredIf y = record { granted = none; acknowledged = none; started = false; delivered = none; timeout = none; recovered = y }
@@ -175,22 +175,22 @@ wireByte b t = record { byte = some (record { value = b; at = t }); cut = false;
 abbrev cutIf : Bool → Wire
 cutIf y = record { byte = none; cut = y; refreshed = false }
 
-abbrev statusOf : Said → Idle
-statusOf s = record { check = none; status = s .status }
+abbrev statusSeen : Said → Idle
+statusSeen s = record { check = none; status = s .status }
 
 abbrev pub seenBy : Record → Said → Seen
 seenBy (kind.Open c t) s = record { opening = some (record { config = c; boot = t }); requests = noRequests; wire = noWire; idle = noIdle; now = t; taken = false }
 seenBy (kind.NextRequest t) s = nothing
 seenBy (kind.MarkRequestQueued q t) s = seenAt t (grantedIf (s .yes) q t) noWire noIdle
-seenBy (kind.ActuatorAck k t) s = seenAt t (acknowledged k s) noWire (statusOf s)
-seenBy (kind.PollTimeout t) s = seenAt t (timedOut (s .timeout)) noWire noIdle
-seenBy (kind.WireByte b t) s = seenAt t (delivered (updateIn (s .delivered))) (wireByte b t) (statusOf s)
+seenBy (kind.ActuatorAck k t) s = seenAt t (acknowledged k s) noWire (statusSeen s)
+seenBy (kind.PollTimeout t) s = seenAt t (timeoutSeen (s .timeout)) noWire noIdle
+seenBy (kind.WireByte b t) s = seenAt t (sampleSeen (updateIn (s .delivered))) (wireByte b t) (statusSeen s)
 seenBy kind.WireDiscontinuity s = seenAt 0 noRequests (cutIf true) noIdle
 seenBy (kind.TryRecover armed t) s = seenAt t (recoveredIf (s .yes)) (cutIf (s .yes)) noIdle
 seenBy kind.TakeBackAfterRetries s = record { opening = none; requests = noRequests; wire = noWire; idle = noIdle; now = 0; taken = true }
 seenBy kind.RefreshWireStats s = seenAt 0 noRequests (record { byte = none; cut = false; refreshed = true }) noIdle
 seenBy (kind.IdleCheck c t) s = seenAt t noRequests noWire (record { check = some (record { config = c; start = t }); status = none })
-seenBy (kind.IdleStatus t) s = seenAt t noRequests noWire (statusOf s)
+seenBy (kind.IdleStatus t) s = seenAt t noRequests noWire (statusSeen s)
 seenBy kind.Report s = nothing
 seenBy (kind.StoredSample o) s = nothing
 seenBy (kind.Figures o) s = nothing

@@ -68,26 +68,26 @@ abbrev pub joined : EscIdleQualificationConfig → EscTelemetryUpdate → Lane �
 joined c u l us = pick (eqb (laneOf (u .output)) (laneNumber l)) (pick (ltb (erpm u) (c .«min_erpm_div100»)) [] (u ∷ us)) us
 
 -- a lane's run after a 0b (no sample) or a delivered sample at now
-abbrev pub runAt : Check → Option EscTelemetryUpdate → ℕ → Lane → List EscTelemetryUpdate → List EscTelemetryUpdate
-runAt k none now l us = fresh (k .config) now us
-runAt k (some u) now l us = pick (pastGrace k now) (fresh (k .config) now (joined (k .config) u l us)) us
+abbrev pub streakAt : Check → Option EscTelemetryUpdate → ℕ → Lane → List EscTelemetryUpdate → List EscTelemetryUpdate
+streakAt k none now l us = fresh (k .config) now us
+streakAt k (some u) now l us = pick (pastGrace k now) (fresh (k .config) now (joined (k .config) u l us)) us
 
-abbrev pub runWith : Option Check → Option EscTelemetryUpdate → Bool → ℕ → Lane → List EscTelemetryUpdate → List EscTelemetryUpdate
-runWith none u asked now l us = us
-runWith (some k) u false now l us = us
-runWith (some k) u true now l us = runAt k u now l us
+abbrev pub streakWith : Option Check → Option EscTelemetryUpdate → Bool → ℕ → Lane → List EscTelemetryUpdate → List EscTelemetryUpdate
+streakWith none u asked now l us = us
+streakWith (some k) u false now l us = us
+streakWith (some k) u true now l us = streakAt k u now l us
 
-unfoldable pub run : Past → Lane → List EscTelemetryUpdate
-run [] l = []
-run (e ∷ h) l =
-    pick (is (e .idle .check)) [] (runWith (check h) (e .requests .delivered) (is (e .idle .status)) (e .now) l (run h l))
+unfoldable pub streak : Past → Lane → List EscTelemetryUpdate
+streak [] l = []
+streak (e ∷ h) l =
+    pick (is (e .idle .check)) [] (streakWith (check h) (e .requests .delivered) (is (e .idle .status)) (e .now) l (streak h l))
 
 -- the count, saturating at 255
 abbrev pub tally : List EscTelemetryUpdate → ℕ
 tally us = min (length us) 255
 
-abbrev pub weighed : Check → ℕ → ℕ → ℕ → ℕ → ℕ → EscIdleQualificationStatus
-weighed k now a b c d =
+abbrev pub verdictOn : Check → ℕ → ℕ → ℕ → ℕ → ℕ → EscIdleQualificationStatus
+verdictOn k now a b c d =
     pick
     (leb (k .config .«required_consecutive_samples») a
     && leb (k .config .«required_consecutive_samples») b
@@ -98,16 +98,16 @@ weighed k now a b c d =
 
 -- Qualified (every count at least required) is tested before Due(start, now, timeout)
 abbrev pub settled : Check → ℕ → (Lane → List EscTelemetryUpdate) → EscIdleQualificationStatus
-settled k now f = weighed k now (tally (f Output1)) (tally (f Output2)) (tally (f Output3)) (tally (f Output4))
+settled k now f = verdictOn k now (tally (f Output1)) (tally (f Output2)) (tally (f Output3)) (tally (f Output4))
 
 -- above max fails
 abbrev pub judgedAt : Check → Option EscTelemetryUpdate → ℕ → (Lane → List EscTelemetryUpdate) → EscIdleQualificationStatus
-judgedAt k none now f = settled k now (λ l. runAt k none now l (f l))
+judgedAt k none now f = settled k now (λ l. streakAt k none now l (f l))
 judgedAt k (some u) now f =
     pick (pastGrace k now)
     (pick (ltb (k .config .«max_erpm_div100») (erpm u))
     (Failed (Overspeed (u .output) (erpm u)))
-    (settled k now (λ l. runAt k (some u) now l (f l))))
+    (settled k now (λ l. streakAt k (some u) now l (f l))))
     Pending
 
 -- invalid settings fail first
@@ -118,4 +118,4 @@ judgedBy (some k) none u now f = Status (pick (valid (k .config)) (judgedAt k u 
 
 -- what the check says to a delivered sample, or to a 0b
 unfoldable pub judged : Past → Option EscTelemetryUpdate → ℕ → IdleAnswer
-judged h u now = judgedBy (check h) (verdict h) u now (run h)
+judged h u now = judgedBy (check h) (verdict h) u now (streak h)

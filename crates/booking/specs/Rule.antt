@@ -29,10 +29,10 @@ use Rattle.booking.specs.History.{Opening, Past, Since, since, Call, His
 use Rattle.booking.specs.Wire.{Frame, wire, frameAt, timed}
 use Rattle.booking.specs.Booking.{booked, bookedTo, newlyStarted, startedRequest, latestFrame}
 use Rattle.booking.specs.Turns.{existing, names}
-use Rattle.booking.specs.Faults.{expired, recovers, note}
+use Rattle.booking.specs.Faults.{timeoutFor, recovers, note}
 use Rattle.booking.specs.IdleRule.{judged}
-use Rattle.booking.specs.Samples.{stored, given, figureOf}
-use Rattle.booking.specs.Counts.{reportOf}
+use Rattle.booking.specs.Samples.{stored, deliveredOn, figureOf}
+use Rattle.booking.specs.Counts.{reportFor}
 
 -- 00 none, or 01 S L
 abbrev pub nextAnswer : Option EscActuatorRequest → NextRequest
@@ -64,7 +64,7 @@ answerTo o h (kind.Open c t) = answer.Done
 answerTo o h (kind.NextRequest now) = answer.Request (nextAnswer (existing o h now))
 answerTo o h (kind.MarkRequestQueued q now) = answer.Decided (names (existing o h now) q)
 answerTo o h (kind.ActuatorAck k now) = answer.Ack (ackAnswer (newlyStarted h (k .request)) (latestFrame h) (λ u. judged h (some u) now))
-answerTo o h (kind.PollTimeout now) = answer.Timeout (expired o h now)
+answerTo o h (kind.PollTimeout now) = answer.Timeout (timeoutFor o h now)
 answerTo o h (kind.WireByte b now) = answer.Wire (wireAnswerOf (bookedTo (startedRequest h) (timed (frameAt (wire h) b) now)) (λ u. judged h (some u) now))
 answerTo o h kind.WireDiscontinuity = answer.Done
 answerTo o h (kind.TryRecover armed now) = answer.Decided (recovers o h armed now)
@@ -72,9 +72,9 @@ answerTo o h kind.TakeBackAfterRetries = answer.BackAfterRetries (noteAnswer (no
 answerTo o h kind.RefreshWireStats = answer.Done
 answerTo o h (kind.IdleCheck c t) = answer.Done
 answerTo o h (kind.IdleStatus now) = answer.Idle (judged h none now)
-answerTo o h kind.Report = answer.Report (reportOf h)
+answerTo o h kind.Report = answer.Report (reportFor h)
 answerTo o h (kind.StoredSample l) = answer.Stored (storedAnswerOf (stored h (l .0)))
-answerTo o h (kind.Figures l) = answer.Figures (figureOf (given h (l .0)))
+answerTo o h (kind.Figures l) = answer.Figures (figureOf (deliveredOn h (l .0)))
 
 -- 8: any kind but 00 before the first accepted 00
 abbrev pub unopened : Record → Reply Answer

@@ -27,9 +27,9 @@ added none l us = us
 added (some u) l us = pick (eqb (laneOf (u .output)) (laneNumber l)) (u ∷ us) us
 
 -- a lane's delivered samples, newest first; figures are kept over recovery
-unfoldable pub given : Past → Lane → List EscTelemetryUpdate
-given [] l = []
-given (e ∷ h) l = added (e .requests .delivered) l (given h l)
+unfoldable pub deliveredOn : Past → Lane → List EscTelemetryUpdate
+deliveredOn [] l = []
+deliveredOn (e ∷ h) l = added (e .requests .delivered) l (deliveredOn h l)
 
 -- the largest temperature byte
 unfoldable pub hottest : List EscTelemetryUpdate → ℕ

@@ -13,7 +13,7 @@ use Rattle.esc_records.specs.declared.record.Record.the-variants as kind
 use Rattle.esc_records.specs.declared.answer.Answer.{Answer}
 use Rattle.esc_records.specs.declared.answer.Answer.the-variants as answer
 use Rattle.booking.specs.History.{Call, Past}
-use Rattle.booking.specs.Samples.{given}
+use Rattle.booking.specs.Samples.{deliveredOn}
 use Rattle.booking.specs.Rule.{storedAnswerOf}
 use Rattle.booking.specs.Claims.{pastAfter, replyAfter}
 
@@ -28,7 +28,7 @@ newestOf (u ∷ us) = some u
 
 -- the newest sample delivered to a lane since the opening and the latest recovery; none where there was none
 abbrev pub newestDelivered : Lane → Past → Option EscTelemetryUpdate
-newestDelivered l h = newestOf (given (sinceRecovery h) l)
+newestDelivered l h = newestOf (deliveredOn (sinceRecovery h) l)
 
 -- 0d: 00 none, or 01 sample. It only shows one again: the newest that was delivered to its lane since the opening and the latest
 -- recovery, which drops stored samples

@@ -37,8 +37,8 @@ unfoldable pub statsBy : StreamParser → List ℕ → ParserStats
 statsBy p [] = p .stats
 statsBy p (b ∷ bs) = statsBy (pushOf p b .parser) bs
 
-abbrev pub counted : ParserStats → List ℕ → List ℕ
-counted s out = overwrite 0 (s .«valid_frames» ∷ s .«crc_failures» ∷ s .«discarded_bytes» ∷ []) out
+abbrev pub countsIn : ParserStats → List ℕ → List ℕ
+countsIn s out = overwrite 0 (s .«valid_frames» ∷ s .«crc_failures» ∷ s .«discarded_bytes» ∷ []) out
 
 -- a mark and five fields for each byte, and three counts
 unfoldable pub fits : List ℕ → List ℕ → List ℕ → List ℕ → Bool
@@ -56,4 +56,4 @@ abbrev pub fieldsAfter : List ℕ → List ℕ → List ℕ → List ℕ → Lis
 fieldsAfter bytes gave fields counts = pick (fits bytes gave fields counts) (filled 0 (parsedBy newParser bytes) fields) fields
 
 abbrev pub countsAfter : List ℕ → List ℕ → List ℕ → List ℕ → List ℕ
-countsAfter bytes gave fields counts = pick (fits bytes gave fields counts) (counted (statsBy newParser bytes) counts) counts
+countsAfter bytes gave fields counts = pick (fits bytes gave fields counts) (countsIn (statsBy newParser bytes) counts) counts

@@ -4,7 +4,7 @@ ghost use mathlib.Core.Path.{_≡_};
 ghost use Prim.Native.Nat.{_+_, _≤_};
 ghost use lib.ListN.{length};
 ghost use Rattle.base.specs.BigEndian.{overwrite};
-ghost use Rattle.blheli_telemetry.specs.Frame.{writeReply, written};
+ghost use Rattle.blheli_telemetry.specs.Frame.{frameReply, frameWritten};
 ghost use Rattle.base.specs.Reply.{numberOf};
 ghost use Rattle.c_calls.specs.Frame.{telemetryBy, fieldsOf, readNumber, fieldsRead};
 use blheli_telemetry::Decoded;
@@ -49,8 +49,8 @@ pub extern "C" fn esc_frame_write(
     erpm_div100: u16,
     out: &mut [u8],
 ) -> u8
-    ensures { λ r. ⌜ r ≡ numberOf (writeReply (now (out .entry))) ⌝ }
-    ensures { λ _. ⌜ now (out .exit) ≡ written (telemetryBy «temperature_c» «voltage_cv» «current_ca» «consumption_mah» «erpm_div100») (now (out .entry)) ⌝ }
+    ensures { λ r. ⌜ r ≡ numberOf (frameReply (now (out .entry))) ⌝ }
+    ensures { λ _. ⌜ now (out .exit) ≡ frameWritten (telemetryBy «temperature_c» «voltage_cv» «current_ca» «consumption_mah» «erpm_div100») (now (out .entry)) ⌝ }
 {
     let telemetry = EscTelemetry {
         temperature_c,

@@ -4,7 +4,7 @@ ghost use Prim.Native.Nat.{_+_, _*_, _≤_, _<_};
 ghost use lib.ListN.{length, set};
 ghost use Rattle.blheli_telemetry.specs.Parser.{newParser};
 ghost use Rattle.blheli_telemetry.specs.Stream.{parsedBy};
-ghost use Rattle.c_calls.specs.Stream.{markOf, filledAt, marked, filled, statsBy, counted, streamNumber, marksAfter, fieldsAfter, countsAfter};
+ghost use Rattle.c_calls.specs.Stream.{markOf, filledAt, marked, filled, statsBy, countsIn, streamNumber, marksAfter, fieldsAfter, countsAfter};
 use crate::frame::put_fields;
 use blheli_telemetry::Parsed;
 use blheli_telemetry::ParserStats;
@@ -77,7 +77,7 @@ fn put(parsed: Parsed, i: usize, gave: &mut [u8], fields: &mut [u16])
 
 fn put_counts(stats: ParserStats, counts: &mut [u32])
     requires { ⌜ 3 ≤ length (now counts) ⌝ }
-    ensures { λ _. ⌜ now (counts .exit) ≡ counted stats (now (counts .entry)) ⌝ }
+    ensures { λ _. ⌜ now (counts .exit) ≡ countsIn stats (now (counts .entry)) ⌝ }
 {
     counts[0] = stats.valid_frames;
     counts[1] = stats.crc_failures;

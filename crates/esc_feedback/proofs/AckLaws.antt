@@ -11,8 +11,8 @@ use Rattle.base.specs.Choice.{pick}
 use Rattle.esc_feedback.specs.Request.{sameRequest, updateOf}
 use Rattle.esc_feedback.specs.Stats.{requestsStarted}
 use Rattle.esc_feedback.specs.Line.{startedLine}
-use Rattle.esc_feedback.specs.Manager.{setLine, count, heardBy, delivered}
-use Rattle.esc_feedback.specs.Ack.{mismatched, started, ackOn, onAck}
+use Rattle.esc_feedback.specs.Manager.{setLine, counting, heardBy, closedBySample}
+use Rattle.esc_feedback.specs.Ack.{rejectedAck, startedBy, ackOn, onAck}
 use Rattle.esc_feedback.specs.declared.request.EscActuatorRequest.{EscActuatorRequest}
 use Rattle.esc_feedback.specs.declared.request.EscActuatorAck.{EscActuatorAck}
 use Rattle.esc_feedback.specs.declared.request.EscTelemetryObservation.{EscTelemetryObservation}
@@ -24,7 +24,7 @@ use Rattle.esc_feedback.specs.declared.line.PendingRequest.the-variants 
 use Rattle.esc_feedback.specs.declared.manager.EscManager.{EscManager}
 use Rattle.esc_feedback.proofs.line.PendingRequest.{the-type}
 
-ack-else-on : (m : EscManager) (a : EscActuatorAck) (p : PendingRequest) → OneOf (0 ∷ 2 ∷ []) (tagOf the-type p) → ackOn m a p ≡ mismatched m
+ack-else-on : (m : EscManager) (a : EscActuatorAck) (p : PendingRequest) → OneOf (0 ∷ 2 ∷ []) (tagOf the-type p) → ackOn m a p ≡ rejectedAck m
 unfolding ackOn
 ack-else-on m a pending.None h = refl
 ack-else-on m a (pending.Started q t) h = refl
@@ -36,35 +36,35 @@ module _ (m : EscManager) (a : EscActuatorAck) where
   heard = heardBy m (a .«started_at_ms»)
 
   -- nothing queued: a variant other than `Queued`
-  pub ack-else : OneOf (0 ∷ 2 ∷ []) (tagOf the-type (m .line .pending)) → onAck m a ≡ mismatched heard
+  pub ack-else : OneOf (0 ∷ 2 ∷ []) (tagOf the-type (m .line .pending)) → onAck m a ≡ rejectedAck heard
   unfolding onAck
   ack-else h = ack-else-on heard a (m .line .pending) h
 
-  pub ack-closed : m .line .pending ≡ pending.None → onAck m a ≡ mismatched heard
+  pub ack-closed : m .line .pending ≡ pending.None → onAck m a ≡ rejectedAck heard
   unfolding onAck ackOn
   ack-closed e = ap (ackOn heard a) e
 
   module _ (q : EscActuatorRequest) (t : ℕ) where
-    pub ack-again : m .line .pending ≡ pending.Started q t → onAck m a ≡ mismatched heard
+    pub ack-again : m .line .pending ≡ pending.Started q t → onAck m a ≡ rejectedAck heard
     unfolding onAck ackOn
     ack-again e = ap (ackOn heard a) e
 
     module _ (held : EarlyObservation) (e : m .line .pending ≡ pending.Queued q t held) where
-      ack-queued : onAck m a ≡ pick (sameRequest (a .request) q) (started heard q (a .«started_at_ms») held) (mismatched heard)
+      ack-queued : onAck m a ≡ pick (sameRequest (a .request) q) (startedBy heard q (a .«started_at_ms») held) (rejectedAck heard)
       unfolding onAck ackOn
       ack-queued = ap (ackOn heard a) e
 
-      pub ack-other : sameRequest (a .request) q ≡ false → onAck m a ≡ mismatched heard
+      pub ack-other : sameRequest (a .request) q ≡ false → onAck m a ≡ rejectedAck heard
       ack-other s = rw s at ack-queued
 
-      pub ack-same : sameRequest (a .request) q ≡ true → onAck m a ≡ started heard q (a .«started_at_ms») held
+      pub ack-same : sameRequest (a .request) q ≡ true → onAck m a ≡ startedBy heard q (a .«started_at_ms») held
       ack-same s = rw s at ack-queued
 
-    -- the two cases of `started`
+    -- the two cases of `startedBy`
     pub ack-accepted : m .line .pending ≡ pending.Queued q t early.None → sameRequest (a .request) q ≡ true
-        → onAck m a ≡ record { manager = setLine (startedLine q (a .«started_at_ms»)) (count requestsStarted heard); answer = outcome.Accepted }
+        → onAck m a ≡ record { manager = setLine (startedLine q (a .«started_at_ms»)) (counting requestsStarted heard); answer = outcome.Accepted }
     ack-accepted e s = ack-same early.None e s
 
     pub ack-sample : (o : EscTelemetryObservation) → m .line .pending ≡ pending.Queued q t (early.Some o) → sameRequest (a .request) q ≡ true
-        → onAck m a ≡ record { manager = delivered (count requestsStarted heard); answer = outcome.Sample (updateOf q o) }
+        → onAck m a ≡ record { manager = closedBySample (counting requestsStarted heard); answer = outcome.Sample (updateOf q o) }
     ack-sample o e s = ack-same (early.Some o) e s

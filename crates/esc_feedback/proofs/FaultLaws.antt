@@ -4,16 +4,16 @@ use mathlib.Core.Bool.{Bool, true, false, and-false}
 use Prim.Native.Nat.{ℕ, zero, suc, _*_, _^_, _-_, _<_, _≤_, max, min}
 use native.Mathlib.Omega.{arith}
 use lib.Dec.{leb}
-use Rattle.esc_feedback.specs.Fault.{faultOf, heardAt, quietWindow, mayRecover}
+use Rattle.esc_feedback.specs.Fault.{faultOf, afterHearing, quietWindow, mayRecover}
 use Rattle.esc_feedback.specs.declared.fault.Fault.{Fault}
 
-pub heard-calm : (f : Fault) (at : ℕ) → f .faulted ≡ false → heardAt f at ≡ f
-unfolding heardAt
+pub heard-calm : (f : Fault) (at : ℕ) → f .faulted ≡ false → afterHearing f at ≡ f
+unfolding afterHearing
 heard-calm f at e = rw e
 
 pub heard-faulted : (f : Fault) (at : ℕ) → f .faulted ≡ true
-    → heardAt f at ≡ faultOf (f .faulted) (max (f .«quiet_since_ms») at) (f .«retries_without_frame»)
-unfolding heardAt
+    → afterHearing f at ≡ faultOf (f .faulted) (max (f .«quiet_since_ms») at) (f .«retries_without_frame»)
+unfolding afterHearing
 heard-faulted f at e = rw e
 
 doubled : (q k : ℕ) → q < 2 ^ 32 → k ≤ 3 → q * 2 ^ k < 2 ^ 64

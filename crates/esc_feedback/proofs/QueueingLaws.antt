@@ -6,7 +6,7 @@ use Rattle.base.specs.Choice.{pick}
 use Rattle.base.specs.Due.{due}
 use Rattle.esc_feedback.specs.Turn.{turnRequest, periodDue}
 use Rattle.esc_feedback.specs.Line.{isOpen}
-use Rattle.esc_feedback.specs.Queueing.{requestExists, nextRequest, names, granted, yes, no, markQueued}
+use Rattle.esc_feedback.specs.Queueing.{requestExists, nextRequest, isWanted, granted, yes, no, markQueued}
 use Rattle.esc_feedback.specs.declared.request.EscActuatorRequest.{EscActuatorRequest}
 use Rattle.esc_feedback.specs.declared.answer.NextRequest.{NextRequest}
 use Rattle.esc_feedback.specs.declared.answer.NextRequest.the-variants as next
@@ -38,12 +38,12 @@ module _ (m : EscManager) (now : ℕ) where
   unfolding nextRequest requestExists
   some-wanted f o b p = rw (f, o, b, p)
 
-  pub marked-yes : (q : EscActuatorRequest) → names q (nextRequest m now) ≡ true
+  pub marked-yes : (q : EscActuatorRequest) → isWanted q (nextRequest m now) ≡ true
       → markQueued m q now ≡ yes (granted m q now)
   unfolding markQueued
   marked-yes q e = rw e
 
-  pub marked-no : (q : EscActuatorRequest) → names q (nextRequest m now) ≡ false
+  pub marked-no : (q : EscActuatorRequest) → isWanted q (nextRequest m now) ≡ false
       → markQueued m q now ≡ no m
   unfolding markQueued
   marked-no q e = rw e
@@ -51,16 +51,16 @@ module _ (m : EscManager) (now : ℕ) where
   -- 02 says yes exactly when it names the request that exists
   module _ (q : EscActuatorRequest) where
     pub marked-if : nextRequest m now ≡ next.Some q → markQueued m q now ≡ yes (granted m q now)
-    marked-if e = marked-yes q (ap (names q) e ∙ same-itself q)
+    marked-if e = marked-yes q (ap (isWanted q) e ∙ same-itself q)
 
     pub marked-only-if : markQueued m q now .answer ≡ true → nextRequest m now ≡ next.Some q
     unfolding markQueued
-    marked-only-if e = go (nextRequest m now) (named (names q (nextRequest m now)) e)
+    marked-only-if e = go (nextRequest m now) (named (isWanted q (nextRequest m now)) e)
       where
         named : (b : Bool) → pick {A = Marked} b (yes (granted m q now)) (no m) .answer ≡ true → b ≡ true
         named true e = refl
         named false e = e
 
-        go : (n : NextRequest) → names q n ≡ true → n ≡ next.Some q
+        go : (n : NextRequest) → isWanted q n ≡ true → n ≡ next.Some q
         go next.None e = absurd (true≢false (sym e))
         go (next.Some wanted) e = ap next.Some (sym (same-equal q wanted e))

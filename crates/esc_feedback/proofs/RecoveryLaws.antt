@@ -3,12 +3,12 @@ use mathlib.Core.Path.{_≡_}
 use mathlib.Core.Bool.{Bool, true, false}
 use Prim.Native.Nat.{ℕ}
 use Rattle.esc_feedback.specs.Fault.{mayRecover}
-use Rattle.esc_feedback.specs.Recovery.{recovered, tryRecover}
+use Rattle.esc_feedback.specs.Recovery.{recoveredManager, tryRecover}
 use Rattle.esc_feedback.specs.declared.manager.EscManager.{EscManager}
 
 module _ (m : EscManager) (now : ℕ) (armed : Bool) where
   pub recovered-yes : mayRecover (m .fault) (m .config .«recovery_quiet_ms») now armed ≡ true
-      → tryRecover m now armed ≡ record { manager = recovered m; answer = true }
+      → tryRecover m now armed ≡ record { manager = recoveredManager m; answer = true }
   unfolding tryRecover
   recovered-yes e = rw e
 

@@ -13,8 +13,8 @@ abbrev pub noFault : Fault
 noFault = faultOf false 0 0
 
 -- while faulted, what is heard moves the quiet start later, never earlier
-unfoldable pub heardAt : Fault → ℕ → Fault
-heardAt f at = pick (f .faulted) (faultOf (f .faulted) (max (f .«quiet_since_ms») at) (f .«retries_without_frame»)) f
+unfoldable pub afterHearing : Fault → ℕ → Fault
+afterHearing f at = pick (f .faulted) (faultOf (f .faulted) (max (f .«quiet_since_ms») at) (f .«retries_without_frame»)) f
 
 -- a timeout sets faulted and starts the quiet time at its T
 abbrev pub timedOutAt : Fault → ℕ → Fault

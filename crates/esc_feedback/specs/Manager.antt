@@ -4,10 +4,10 @@ use lib.Dec.{eqb}
 use Rattle.base.specs.Choice.{pick}
 use Rattle.blheli_telemetry.specs.Parser.{newParser}
 use Rattle.blheli_telemetry.specs.declared.parser.StreamParser.{StreamParser}
-use Rattle.esc_feedback.specs.Stats.{Count, counted, noStats}
+use Rattle.esc_feedback.specs.Stats.{Count, raised, noStats}
 use Rattle.esc_feedback.specs.Turn.{firstTurn}
 use Rattle.esc_feedback.specs.Line.{closedLine}
-use Rattle.esc_feedback.specs.Fault.{noFault, heardAt, retriesCleared}
+use Rattle.esc_feedback.specs.Fault.{noFault, afterHearing, retriesCleared}
 use Rattle.esc_feedback.specs.declared.answer.BackAfterRetries.{BackAfterRetries}
 use Rattle.esc_feedback.specs.declared.answer.BackAfterRetries.the-variants as back
 use Rattle.esc_feedback.specs.declared.config.EscManagerConfig.{EscManagerConfig}
@@ -54,19 +54,19 @@ setParser x m = managerOf (m .config) (m .«boot_started_ms») (m .turn) (m .lin
 abbrev pub setStats : EscManagerStats → EscManager → EscManager
 setStats x m = managerOf (m .config) (m .«boot_started_ms») (m .turn) (m .line) (m .fault) (m .back) (m .parser) x
 
-abbrev pub count : Count → EscManager → EscManager
-count k m = setStats (counted k (m .stats)) m
+abbrev pub counting : Count → EscManager → EscManager
+counting k m = setStats (raised k (m .stats)) m
 
 abbrev pub newManager : EscManagerConfig → ℕ → EscManager
 newManager config boot = managerOf config boot firstTurn closedLine noFault (noted back.None) newParser noStats
 
 -- while faulted, a 05 or 03 moves the quiet start later
 abbrev pub heardBy : EscManager → ℕ → EscManager
-heardBy m at = setFault (heardAt (m .fault) at) m
+heardBy m at = setFault (afterHearing (m .fault) at) m
 
 -- a delivered sample closes the request; it alone clears retries, and then, if they were not 0, notes them for 08
-unfoldable pub delivered : EscManager → EscManager
-delivered m =
+unfoldable pub closedBySample : EscManager → EscManager
+closedBySample m =
     pick (eqb (m .fault .«retries_without_frame») 0)
     (setLine closedLine m)
     (setFault (retriesCleared (m .fault)) (setBack (noted (back.Some (m .fault .«retries_without_frame»))) (setLine closedLine m)))

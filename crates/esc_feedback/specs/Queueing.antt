@@ -7,7 +7,7 @@ use Rattle.esc_feedback.specs.Request.{sameRequest}
 use Rattle.esc_feedback.specs.Stats.{requestsQueued}
 use Rattle.esc_feedback.specs.Turn.{turnRequest, periodDue, turnAfter}
 use Rattle.esc_feedback.specs.Line.{isOpen, queuedLine}
-use Rattle.esc_feedback.specs.Manager.{setTurn, setLine, count}
+use Rattle.esc_feedback.specs.Manager.{setTurn, setLine, counting}
 use Rattle.esc_feedback.specs.declared.request.EscActuatorRequest.{EscActuatorRequest}
 use Rattle.esc_feedback.specs.declared.answer.NextRequest.{NextRequest}
 use Rattle.esc_feedback.specs.declared.answer.NextRequest.the-variants as next
@@ -26,13 +26,13 @@ requestExists m now =
 unfoldable pub nextRequest : EscManager → ℕ → NextRequest
 nextRequest m now = pick (requestExists m now) (next.Some (turnRequest (m .turn))) next.None
 
-abbrev pub names : EscActuatorRequest → NextRequest → Bool
-names q next.None = false
-names q (next.Some wanted) = sameRequest q wanted
+abbrev pub isWanted : EscActuatorRequest → NextRequest → Bool
+isWanted q next.None = false
+isWanted q (next.Some wanted) = sameRequest q wanted
 
 -- a yes to 02 opens the request, moves the turn and is counted
 abbrev pub granted : EscManager → EscActuatorRequest → ℕ → EscManager
-granted m q now = count requestsQueued (setTurn (turnAfter (m .turn) now) (setLine (queuedLine q now early.None) m))
+granted m q now = counting requestsQueued (setTurn (turnAfter (m .turn) now) (setLine (queuedLine q now early.None) m))
 
 abbrev pub yes : EscManager → Marked
 yes m = record { manager = m; answer = true }
@@ -42,4 +42,4 @@ no m = record { manager = m; answer = false }
 
 -- 02 says yes exactly when it names the request that exists at its T
 unfoldable pub markQueued : EscManager → EscActuatorRequest → ℕ → Marked
-markQueued m q now = pick (names q (nextRequest m now)) (yes (granted m q now)) (no m)
+markQueued m q now = pick (isWanted q (nextRequest m now)) (yes (granted m q now)) (no m)

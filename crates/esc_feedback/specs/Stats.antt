@@ -36,8 +36,8 @@ changed queued started ackTimeouts responseTimeouts mismatched unsolicited recov
     (recoveries (s .recoveries))
     (s .wire)
 
-abbrev pub kept : ℕ → ℕ
-kept n = n
+abbrev pub asItIs : ℕ → ℕ
+asItIs n = n
 
 -- the seven own counts
 pub data Count : Type 0 where
@@ -50,14 +50,14 @@ pub data Count : Type 0 where
   recoveries : Count
 
 -- one of the seven rises by one modulo 2^32
-abbrev pub counted : Count → EscManagerStats → EscManagerStats
-counted requestsQueued s = changed more kept kept kept kept kept kept s
-counted requestsStarted s = changed kept more kept kept kept kept kept s
-counted ackTimeouts s = changed kept kept more kept kept kept kept s
-counted responseTimeouts s = changed kept kept kept more kept kept kept s
-counted mismatchedAcks s = changed kept kept kept kept more kept kept s
-counted unsolicitedFrames s = changed kept kept kept kept kept more kept s
-counted recoveries s = changed kept kept kept kept kept kept more s
+abbrev pub raised : Count → EscManagerStats → EscManagerStats
+raised requestsQueued s = changed more asItIs asItIs asItIs asItIs asItIs asItIs s
+raised requestsStarted s = changed asItIs more asItIs asItIs asItIs asItIs asItIs s
+raised ackTimeouts s = changed asItIs asItIs more asItIs asItIs asItIs asItIs s
+raised responseTimeouts s = changed asItIs asItIs asItIs more asItIs asItIs asItIs s
+raised mismatchedAcks s = changed asItIs asItIs asItIs asItIs more asItIs asItIs s
+raised unsolicitedFrames s = changed asItIs asItIs asItIs asItIs asItIs more asItIs s
+raised recoveries s = changed asItIs asItIs asItIs asItIs asItIs asItIs more s
 
 -- the manager's copy of the parser's counts renewed
 abbrev pub wireRenewed : EscManagerStats → ParserStats → EscManagerStats

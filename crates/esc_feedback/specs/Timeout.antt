@@ -5,7 +5,7 @@ use Rattle.base.specs.Due.{due}
 use Rattle.esc_feedback.specs.Stats.{ackTimeouts, responseTimeouts}
 use Rattle.esc_feedback.specs.Line.{closedLine}
 use Rattle.esc_feedback.specs.Fault.{timedOutAt}
-use Rattle.esc_feedback.specs.Manager.{setLine, setFault, count}
+use Rattle.esc_feedback.specs.Manager.{setLine, setFault, counting}
 use Rattle.esc_feedback.specs.declared.request.EscActuatorRequest.{EscActuatorRequest}
 use Rattle.esc_feedback.specs.declared.answer.EscManagerTimeout.the-variants as timeout
 use Rattle.esc_feedback.specs.declared.line.PendingRequest.{PendingRequest}
@@ -21,10 +21,10 @@ abbrev pub timedOut : EscManager → ℕ → EscManager
 timedOut m now = setFault (timedOutAt (m .fault) now) (setLine closedLine m)
 
 abbrev pub ackTimedOut : EscManager → EscActuatorRequest → ℕ → Polled
-ackTimedOut m q now = record { manager = count ackTimeouts (timedOut m now); answer = timeout.ActuatorAck q }
+ackTimedOut m q now = record { manager = counting ackTimeouts (timedOut m now); answer = timeout.ActuatorAck q }
 
 abbrev pub responseTimedOut : EscManager → EscActuatorRequest → ℕ → Polled
-responseTimedOut m q now = record { manager = count responseTimeouts (timedOut m now); answer = timeout.TelemetryResponse q }
+responseTimedOut m q now = record { manager = counting responseTimeouts (timedOut m now); answer = timeout.TelemetryResponse q }
 
 -- an acknowledgement timeout when the open request has had no equal 03 and Due(T of its 02, now, acknowledgement timeout);
 -- after that 03, a response timeout when Due(started T of the 03, now, response timeout); otherwise none

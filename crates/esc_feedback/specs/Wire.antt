@@ -7,7 +7,7 @@ use Rattle.blheli_telemetry.specs.declared.parser.Parsed.the-variants.{Sample, 
 use Rattle.esc_feedback.specs.Request.{observationOf, updateOf}
 use Rattle.esc_feedback.specs.Stats.{unsolicitedFrames, wireRenewed}
 use Rattle.esc_feedback.specs.Line.{queuedLine}
-use Rattle.esc_feedback.specs.Manager.{setLine, setParser, setStats, count, heardBy, delivered}
+use Rattle.esc_feedback.specs.Manager.{setLine, setParser, setStats, counting, heardBy, closedBySample}
 use Rattle.esc_feedback.specs.declared.answer.WireUpdate.the-variants as update
 use Rattle.esc_feedback.specs.declared.line.EarlyObservation.the-variants as early
 use Rattle.esc_feedback.specs.declared.line.PendingRequest.{PendingRequest}
@@ -26,19 +26,19 @@ refreshed m = setStats (wireRenewed (m .stats) (m .parser .stats)) m
 -- a frame with nothing open is unsolicited; one before the acknowledgement is held, and a later one replaces it, uncounted;
 -- one after it is the request's sample
 unfoldable pub framedOn : EscManager → EscTelemetry → ℕ → PendingRequest → Received
-framedOn m sample at pending.None = record { manager = count unsolicitedFrames m; answer = update.None }
+framedOn m sample at pending.None = record { manager = counting unsolicitedFrames m; answer = update.None }
 framedOn m sample at (pending.Queued q t e) =
     record { manager = setLine (queuedLine q t (early.Some (observationOf q sample at))) m; answer = update.None }
 framedOn m sample at (pending.Started q t) =
-    record { manager = delivered m; answer = update.Some (updateOf q (observationOf q sample at)) }
+    record { manager = closedBySample m; answer = update.Some (updateOf q (observationOf q sample at)) }
 
-abbrev pub framed : EscManager → EscTelemetry → ℕ → Received
-framed m sample at = framedOn m sample at (m .line .pending)
+abbrev pub frameTaken : EscManager → EscTelemetry → ℕ → Received
+frameTaken m sample at = framedOn m sample at (m .line .pending)
 
 -- only when the parser gives a sample is the copy of its counts renewed
 unfoldable pub receivedOn : EscManager → ℕ → Parsed → Received
 receivedOn m at Nothing = record { manager = m; answer = update.None }
-receivedOn m at (Sample sample) = framed (refreshed m) sample at
+receivedOn m at (Sample sample) = frameTaken (refreshed m) sample at
 
 -- 05: while faulted it moves the quiet start by its T; the byte goes to the parser
 unfoldable pub pushWire : EscManager → ℕ → ℕ → Received

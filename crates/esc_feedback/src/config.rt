@@ -22,6 +22,7 @@ pub struct EscManagerConfig {
 }
 
 impl EscManagerConfig {
+    // The settings that the boards fly.
     pub fn legacy_uart() -> Self
         ensures { λ r. ⌜ r ≡ legacyUart ⌝ }
     {

@@ -6,7 +6,7 @@
 // arrive.
 ghost use mathlib.Core.Path.{_≡_};
 ghost use Prim.Native.Nat.{_-_, min, max};
-ghost use Rattle.esc_feedback.specs.Fault.{noFault, heardAt, timedOutAt, quietWindow, mayRecover, retried};
+ghost use Rattle.esc_feedback.specs.Fault.{noFault, afterHearing, timedOutAt, quietWindow, mayRecover, retried};
 use crate::config::ESC_RETRY_BACKOFF_STEPS;
 use base::saturating_inc;
 
@@ -19,6 +19,7 @@ pub struct Fault {
 }
 
 impl Fault {
+    // No fault, and no retry.
     pub fn new() -> Self
         ensures { λ r. ⌜ r ≡ noFault ⌝ }
     {
@@ -31,7 +32,7 @@ impl Fault {
 
     // While faulted, a byte or an acknowledgement at at_ms moves the quiet time later.
     pub fn heard(self, at_ms: u64) -> Fault
-        ensures { λ r. ⌜ r ≡ heardAt self «at_ms» ⌝ }
+        ensures { λ r. ⌜ r ≡ afterHearing self «at_ms» ⌝ }
     {
         if !self.faulted {
             return self;
@@ -41,6 +42,7 @@ impl Fault {
         fault
     }
 
+    // A timeout: the quiet time starts at it.
     pub fn timed_out(self, now_ms: u64) -> Fault
         ensures { λ r. ⌜ r ≡ timedOutAt self «now_ms» ⌝ }
     {

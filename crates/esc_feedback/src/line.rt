@@ -31,6 +31,7 @@ pub struct Line {
 }
 
 impl Line {
+    // No request is open.
     pub fn closed() -> Self
         ensures { λ r. ⌜ r ≡ closedLine ⌝ }
     {
@@ -39,6 +40,7 @@ impl Line {
         }
     }
 
+    // A request that was queued, and the frame that came before its acknowledgement.
     pub fn queued(request: EscActuatorRequest, queued_at_ms: u64, early: EarlyObservation) -> Self
         ensures { λ r. ⌜ r ≡ queuedLine request «queued_at_ms» early ⌝ }
     {
@@ -51,6 +53,7 @@ impl Line {
         }
     }
 
+    // A request that was acknowledged: the next frame answers it.
     pub fn started(request: EscActuatorRequest, started_at_ms: u64) -> Self
         ensures { λ r. ⌜ r ≡ startedLine request «started_at_ms» ⌝ }
     {
@@ -62,6 +65,7 @@ impl Line {
         }
     }
 
+    // Whether another request has to wait.
     pub fn is_open(self) -> bool
         ensures { λ r. ⌜ r ≡ isOpen (self .pending) ⌝ }
     {

@@ -17,7 +17,7 @@ pub use wire::Received;
 ghost use mathlib.Core.Path.{_≡_};
 ghost use mathlib.Core.Bool.{not};
 ghost use lib.Dec.{eqb};
-ghost use Rattle.esc_feedback.specs.Manager.{newManager, delivered, takeBack};
+ghost use Rattle.esc_feedback.specs.Manager.{newManager, closedBySample, takeBack};
 use crate::answer::BackAfterRetries;
 use crate::config::EscManagerConfig;
 use crate::fault::Fault;
@@ -50,6 +50,7 @@ pub struct TakenBack {
 }
 
 impl EscManager {
+    // 00: everything anew.
     pub fn new(config: EscManagerConfig, boot_started_ms: u64) -> Self
         ensures { λ r. ⌜ r ≡ newManager config «boot_started_ms» ⌝ }
     {
@@ -88,6 +89,7 @@ impl EscManager {
         self.fault.retries_without_frame != 0
     }
 
+    // The counts that the report shows.
     pub fn stats(self) -> EscManagerStats
         ensures { λ r. ⌜ r ≡ self .stats ⌝ }
     {
@@ -110,7 +112,7 @@ impl EscManager {
 
     // After a sample was delivered: nothing is open, and the retries, if any, are over and noted.
     fn delivered(self) -> EscManager
-        ensures { λ r. ⌜ r ≡ delivered self ⌝ }
+        ensures { λ r. ⌜ r ≡ closedBySample self ⌝ }
     {
         let mut m = self;
         let line = Line::closed();

@@ -22,6 +22,7 @@ pub struct EscSamples {
 }
 
 impl EscSamples {
+    // No lane has a sample.
     pub fn new() -> Self
         ensures { λ r. ⌜ r ≡ noSamples ⌝ }
     {
@@ -32,6 +33,7 @@ impl EscSamples {
         Self { slots }
     }
 
+    // The samples with a delivered one in its lane's place.
     pub fn stored(self, update: EscTelemetryUpdate) -> EscSamples
         ensures { λ r. ⌜ r ≡ storedIn self update ⌝ }
     {
@@ -46,6 +48,7 @@ impl EscSamples {
         samples
     }
 
+    // What a lane delivered last.
     pub fn at(self, output: EscOutput) -> StoredObservation
         ensures { λ r. ⌜ r ≡ sampleAt self output ⌝ }
     {

@@ -16,6 +16,7 @@ pub struct EscManagerStats {
 }
 
 impl EscManagerStats {
+    // Nothing counted.
     pub fn new() -> Self
         ensures { λ r. ⌜ r ≡ noStats ⌝ }
     {
@@ -36,6 +37,7 @@ impl EscManagerStats {
         }
     }
 
+    // The counts with the parser's renewed.
     pub fn with_wire(self, wire: ParserStats) -> EscManagerStats
         ensures { λ r. ⌜ r ≡ wireRenewed self wire ⌝ }
     {
@@ -45,6 +47,7 @@ impl EscManagerStats {
     }
 }
 
+// The manager's own counts wrap; only the parser's saturate.
 pub fn one_more(count: u32) -> u32
     ensures { λ r. ⌜ r ≡ more count ⌝ }
 {

@@ -18,6 +18,7 @@ pub struct Turn {
 }
 
 impl Turn {
+    // The first request has lane 0 and sequence 0.
     pub fn new() -> Self
         ensures { λ r. ⌜ r ≡ firstTurn ⌝ }
     {
@@ -29,6 +30,7 @@ impl Turn {
         }
     }
 
+    // The request whose turn it is.
     pub fn request(self) -> EscActuatorRequest
         ensures { λ r. ⌜ r ≡ turnRequest self ⌝ }
     {

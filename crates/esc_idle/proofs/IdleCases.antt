@@ -4,7 +4,7 @@ use mathlib.Core.Bool.{true, false}
 use Prim.Native.Nat.{ℕ}
 use Rattle.base.specs.Due.{due}
 use Rattle.esc_idle.specs.IdleConfig.{validSettings, dshotSettings}
-use Rattle.esc_idle.specs.IdleLane.{countLane, expired, expireLane, expireLanes, everyEnough}
+use Rattle.esc_idle.specs.IdleLane.{countLane, newestExpired, expireLane, expireLanes, everyEnough}
 use Rattle.esc_idle.specs.Idle.{newIdle, weighed, statusOf, measured, observeOf}
 use Rattle.esc_feedback.specs.declared.output.EscOutput.{EscOutput}
 use Rattle.esc_feedback.specs.declared.output.Lane.the-variants.{Output1}
@@ -36,14 +36,14 @@ answer erpm = observeOf (newIdle dshotSettings 0) (sample erpm) 250 .status
 
 pub record IdleCases : Type 0 where
   -- age 200 with limit 200 fresh, 201 not
-  pub fresh : expired 200 200 (At 0) ≡ false
-  pub stale : expired 200 201 (At 0) ≡ true
+  pub fresh : newestExpired 200 200 (At 0) ≡ false
+  pub stale : newestExpired 200 201 (At 0) ≡ true
   -- age 4294967295 with limit 4294967295 expires
-  pub oldest : expired 4294967295 4294967295 (At 0) ≡ true
+  pub oldest : newestExpired 4294967295 4294967295 (At 0) ≡ true
   -- max 100: 100 passes, 101 fails
   pub passes : answer 100 ≡ Pending
   pub fails : answer 101 ≡ Failed (Overspeed lane0 101)
 
 pub idle-cases : IdleCases
-unfolding due validSettings countLane expired expireLane expireLanes everyEnough weighed statusOf measured observeOf
+unfolding due validSettings countLane newestExpired expireLane expireLanes everyEnough weighed statusOf measured observeOf
 idle-cases = record { fresh = refl; stale = refl; oldest = refl; passes = refl; fails = refl }

@@ -9,7 +9,7 @@ use borrow.Author.Tests.{lt-ltb, le-ltb, leb-true}
 use Rattle.base.specs.Choice.{pick}
 use Rattle.base.specs.Saturated.{saturated}
 use Rattle.base.specs.Due.{due}
-use Rattle.esc_idle.specs.IdleLane.{clearLane, countUp, countLane, expired, expireLane, enough, everyEnough, countOf}
+use Rattle.esc_idle.specs.IdleLane.{clearLane, countUp, countLane, newestExpired, expireLane, enough, everyEnough, countOf}
 use Rattle.esc_feedback.specs.declared.request.EscTelemetryObservation.{EscTelemetryObservation}
 use Rattle.esc_idle.specs.declared.idle_lane.Newest.the-variants.{None, At}
 use Rattle.esc_idle.specs.declared.idle_lane.IdleLane.{IdleLane}
@@ -25,20 +25,20 @@ module _ (least : ℕ) (o : EscTelemetryObservation) (l : IdleLane) where
   count-risen h = rw (le-ltb _ _ h)
 
 module _ (age now : ℕ) where
-  pub expired-none : expired age now None ≡ false
-  unfolding expired
+  pub expired-none : newestExpired age now None ≡ false
+  unfolding newestExpired
   expired-none = refl
 
-  pub expired-at : (observed : ℕ) → expired age now (At observed) ≡ due observed now (saturated age)
-  unfolding expired
+  pub expired-at : (observed : ℕ) → newestExpired age now (At observed) ≡ due observed now (saturated age)
+  unfolding newestExpired
   expired-at observed = refl
 
 module _ (age now : ℕ) (l : IdleLane) where
-  pub expire-cleared : expired age now (l .newest) ≡ true → expireLane age now l ≡ clearLane
+  pub expire-cleared : newestExpired age now (l .newest) ≡ true → expireLane age now l ≡ clearLane
   unfolding expireLane
   expire-cleared e = ap (λ (b : Bool). pick b clearLane l) e
 
-  pub expire-kept : expired age now (l .newest) ≡ false → expireLane age now l ≡ l
+  pub expire-kept : newestExpired age now (l .newest) ≡ false → expireLane age now l ≡ l
   unfolding expireLane
   expire-kept e = ap (λ (b : Bool). pick b clearLane l) e
 

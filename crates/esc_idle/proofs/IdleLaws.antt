@@ -7,7 +7,7 @@ use Rattle.base.specs.Choice.{pick}
 use Rattle.base.specs.Due.{due}
 use Rattle.esc_idle.specs.IdleConfig.{validSettings}
 use Rattle.esc_idle.specs.IdleLane.{everyEnough}
-use Rattle.esc_idle.specs.Idle.{answered, decided, unlessTerminal, timedOut, freshAt, weighed, statusOf, sampled, measured, observeOf}
+use Rattle.esc_idle.specs.Idle.{saying, decided, unlessTerminal, timeoutWith, freshAt, weighed, statusOf, sampled, measured, observeOf}
 use Rattle.esc_feedback.specs.declared.request.EscTelemetryUpdate.{EscTelemetryUpdate}
 use Rattle.esc_idle.specs.declared.idle_verdict.EscIdleQualificationFailure.the-variants.{InvalidConfig, Overspeed}
 use Rattle.esc_idle.specs.declared.idle_verdict.EscIdleQualificationStatus.{EscIdleQualificationStatus}
@@ -22,7 +22,7 @@ pub record Running (q : EscIdleQualification) : Type 0 where
   pub valid : validSettings (q .config) ≡ true
 
 module _ (q : EscIdleQualification) (found : EscIdleJudged) where
-  stays : (s : EscIdleQualificationStatus) → q .verdict .terminal ≡ Some s → unlessTerminal q found (q .verdict .terminal) ≡ answered q s
+  stays : (s : EscIdleQualificationStatus) → q .verdict .terminal ≡ Some s → unlessTerminal q found (q .verdict .terminal) ≡ saying q s
   stays s e = ap (unlessTerminal q found) e
 
   invalid : q .verdict .terminal ≡ None → validSettings (q .config) ≡ false
@@ -38,16 +38,16 @@ module _ (q : EscIdleQualification) (now : ℕ) where
   weighed-qualified e = rw e
 
   pub weighed-timed-out : everyEnough (q .config .«required_consecutive_samples») (q .lanes) ≡ false
-      → due (q .«started_at_ms») now (q .config .«timeout_ms») ≡ true → weighed q now ≡ decided q (Failed (timedOut (q .lanes)))
+      → due (q .«started_at_ms») now (q .config .«timeout_ms») ≡ true → weighed q now ≡ decided q (Failed (timeoutWith (q .lanes)))
   unfolding weighed
   weighed-timed-out e d = rw (e, d)
 
   pub weighed-pending : everyEnough (q .config .«required_consecutive_samples») (q .lanes) ≡ false
-      → due (q .«started_at_ms») now (q .config .«timeout_ms») ≡ false → weighed q now ≡ answered q Pending
+      → due (q .«started_at_ms») now (q .config .«timeout_ms») ≡ false → weighed q now ≡ saying q Pending
   unfolding weighed
   weighed-pending e d = rw (e, d)
 
-  pub status-stays : (s : EscIdleQualificationStatus) → q .verdict .terminal ≡ Some s → statusOf q now ≡ answered q s
+  pub status-stays : (s : EscIdleQualificationStatus) → q .verdict .terminal ≡ Some s → statusOf q now ≡ saying q s
   unfolding statusOf
   status-stays s e = stays q _ s e
 
@@ -70,7 +70,7 @@ module _ (q : EscIdleQualification) (u : EscTelemetryUpdate) (now : ℕ) where
   unfolding measured
   measured-counted h = rw (le-ltb _ _ h)
 
-  pub observe-stays : (s : EscIdleQualificationStatus) → q .verdict .terminal ≡ Some s → observeOf q u now ≡ answered q s
+  pub observe-stays : (s : EscIdleQualificationStatus) → q .verdict .terminal ≡ Some s → observeOf q u now ≡ saying q s
   unfolding observeOf
   observe-stays s e = stays q _ s e
 
@@ -79,7 +79,7 @@ module _ (q : EscIdleQualification) (u : EscTelemetryUpdate) (now : ℕ) where
   unfolding observeOf
   observe-invalid e v = invalid q _ e v
 
-  pub observe-ignored : Running q → due (q .«started_at_ms») now (q .config .«spinup_grace_ms») ≡ false → observeOf q u now ≡ answered q Pending
+  pub observe-ignored : Running q → due (q .«started_at_ms») now (q .config .«spinup_grace_ms») ≡ false → observeOf q u now ≡ saying q Pending
   unfolding observeOf
   observe-ignored r d = running q _ r ∙ rw d
 

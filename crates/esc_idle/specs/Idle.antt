@@ -31,19 +31,19 @@ withLanes q ls =
     record { config = q .config; «started_at_ms» = q .«started_at_ms»; lanes = ls; verdict = q .verdict }
 
 -- an answer that changes nothing
-abbrev pub answered : EscIdleQualification → EscIdleQualificationStatus → EscIdleJudged
-answered q s = record { idle = q; status = s }
+abbrev pub saying : EscIdleQualification → EscIdleQualificationStatus → EscIdleJudged
+saying q s = record { idle = q; status = s }
 
 -- an answer that stays as the verdict
 abbrev pub decided : EscIdleQualification → EscIdleQualificationStatus → EscIdleJudged
 decided q s =
-    answered
+    saying
     (record { config = q .config; «started_at_ms» = q .«started_at_ms»; lanes = q .lanes; verdict = record { terminal = Some s } })
     s
 
 -- a terminal verdict stays; invalid settings fail first; else the answer is what the call finds
 abbrev pub unlessTerminal : EscIdleQualification → EscIdleJudged → Terminal → EscIdleJudged
-unlessTerminal q found (Some s) = answered q s
+unlessTerminal q found (Some s) = saying q s
 unlessTerminal q found None = pick (validSettings (q .config)) found (decided q (Failed InvalidConfig))
 
 -- the four counts
@@ -51,8 +51,8 @@ abbrev pub countsOf : List IdleLane → List ℕ
 countsOf ls = countOf ls 0 ∷ countOf ls 1 ∷ countOf ls 2 ∷ countOf ls 3 ∷ []
 
 -- the timeout with them
-abbrev pub timedOut : List IdleLane → EscIdleQualificationFailure
-timedOut ls = Timeout (countOf ls 0) (countOf ls 1) (countOf ls 2) (countOf ls 3)
+abbrev pub timeoutWith : List IdleLane → EscIdleQualificationFailure
+timeoutWith ls = Timeout (countOf ls 0) (countOf ls 1) (countOf ls 2) (countOf ls 3)
 
 -- every lane whose newest has expired is cleared
 abbrev pub freshAt : EscIdleQualification → ℕ → EscIdleQualification
@@ -64,8 +64,8 @@ weighed q now =
     pick (everyEnough (q .config .«required_consecutive_samples») (q .lanes))
     (decided q Qualified)
     (pick (due (q .«started_at_ms») now (q .config .«timeout_ms»))
-    (decided q (Failed (timedOut (q .lanes))))
-    (answered q Pending))
+    (decided q (Failed (timeoutWith (q .lanes))))
+    (saying q Pending))
 
 -- `status`: expired lanes are cleared, then the counts are weighed
 unfoldable pub statusOf : EscIdleQualification → ℕ → EscIdleJudged
@@ -89,5 +89,5 @@ measured q u now =
 unfoldable pub observeOf : EscIdleQualification → EscTelemetryUpdate → ℕ → EscIdleJudged
 observeOf q u now =
     unlessTerminal q
-    (pick (due (q .«started_at_ms») now (q .config .«spinup_grace_ms»)) (measured q u now) (answered q Pending))
+    (pick (due (q .«started_at_ms») now (q .config .«spinup_grace_ms»)) (measured q u now) (saying q Pending))
     (q .verdict .terminal)

@@ -28,13 +28,13 @@ countLane least o l =
     (record { «consecutive_samples» = countUp (l .«consecutive_samples»); newest = At (o .«observed_at_ms») })
 
 -- a newest has expired: Due(its observed time, now, age + 1), the sum saturating at 2^32 − 1
-unfoldable pub expired : ℕ → ℕ → Newest → Bool
-expired age now None = false
-expired age now (At observed) = due observed now (saturated age)
+unfoldable pub newestExpired : ℕ → ℕ → Newest → Bool
+newestExpired age now None = false
+newestExpired age now (At observed) = due observed now (saturated age)
 
 -- a lane whose newest has expired is cleared
 unfoldable pub expireLane : ℕ → ℕ → IdleLane → IdleLane
-expireLane age now l = pick (expired age now (l .newest)) clearLane l
+expireLane age now l = pick (newestExpired age now (l .newest)) clearLane l
 
 -- and so with every lane
 unfoldable pub expireLanes : ℕ → ℕ → List IdleLane → List IdleLane

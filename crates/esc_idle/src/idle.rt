@@ -27,6 +27,7 @@ pub struct EscIdleJudged {
 }
 
 impl EscIdleQualification {
+    // 0a: a check that begins now.
     pub fn new(config: EscIdleQualificationConfig, started_at_ms: u64) -> Self
         ensures { λ r. ⌜ r ≡ newIdle config «started_at_ms» ⌝ }
     {
@@ -43,6 +44,7 @@ impl EscIdleQualification {
         }
     }
 
+    // A delivered sample: counted or ignored, and judged.
     pub fn observe(self, update: EscTelemetryUpdate, now_ms: u64) -> EscIdleJudged
         ensures { λ r. ⌜ r ≡ observeOf self update «now_ms» ⌝ }
     {
@@ -64,6 +66,7 @@ impl EscIdleQualification {
         self.measured(update, now_ms)
     }
 
+    // 0b: the verdict at a time, with no new sample.
     pub fn status(self, now_ms: u64) -> EscIdleJudged
         ensures { λ r. ⌜ r ≡ statusOf self «now_ms» ⌝ }
     {
@@ -80,6 +83,7 @@ impl EscIdleQualification {
         idle.weighed(now_ms)
     }
 
+    // How many samples in a row each lane has within limits.
     pub fn consecutive_samples(self) -> [u8; 4]
         ensures { λ r. ⌜ r ≡ countsOf (self .lanes) ⌝ }
     {

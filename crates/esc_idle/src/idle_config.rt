@@ -12,6 +12,7 @@ pub struct EscIdleQualificationConfig {
 }
 
 impl EscIdleQualificationConfig {
+    // Settings under which no motor could qualify, or any would, are refused by a verdict.
     pub fn is_valid(self) -> bool
         ensures { λ r. ⌜ r ≡ validSettings self ⌝ }
     {

@@ -1,6 +1,6 @@
 // One lane of the idle check, and the passes over all four.
 ghost use mathlib.Core.Path.{_≡_};
-ghost use Rattle.esc_idle.specs.IdleLane.{clearLane, countUp, countLane, expired, expireLane, expireLanes, enough, everyEnough};
+ghost use Rattle.esc_idle.specs.IdleLane.{clearLane, countUp, countLane, newestExpired, expireLane, expireLanes, enough, everyEnough};
 use base::elapsed_at_least;
 use base::saturating_inc;
 use esc_feedback::EscTelemetryObservation;
@@ -17,6 +17,7 @@ pub struct IdleLane {
 }
 
 impl IdleLane {
+    // No sample counted.
     pub fn clear() -> IdleLane
         ensures { λ r. ⌜ r ≡ clearLane ⌝ }
     {
@@ -41,7 +42,7 @@ impl IdleLane {
 
     // A sample is fresh up to the age limit itself and expires one millisecond later.
     fn is_expired(self, max_sample_age_ms: u32, now_ms: u64) -> bool
-        ensures { λ r. ⌜ r ≡ expired «max_sample_age_ms» «now_ms» (self .newest) ⌝ }
+        ensures { λ r. ⌜ r ≡ newestExpired «max_sample_age_ms» «now_ms» (self .newest) ⌝ }
     {
         let newest = self.newest;
         let Newest::At(observed_at_ms) = newest else {
@@ -69,6 +70,7 @@ impl IdleLane {
     }
 }
 
+// A lane whose newest sample is too old starts counting anew.
 pub fn expire_lanes(lanes: [IdleLane; 4], max_sample_age_ms: u32, now_ms: u64) -> [IdleLane; 4]
     ensures { λ r. ⌜ r ≡ expireLanes «max_sample_age_ms» «now_ms» lanes ⌝ }
 {
@@ -81,6 +83,7 @@ pub fn expire_lanes(lanes: [IdleLane; 4], max_sample_age_ms: u32, now_ms: u64) -
     fresh
 }
 
+// Whether all four have as many as required.
 pub fn every_lane_has(lanes: [IdleLane; 4], required: u8) -> bool
     ensures { λ r. ⌜ r ≡ everyEnough required lanes ⌝ }
 {

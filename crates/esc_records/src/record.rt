@@ -91,6 +91,7 @@ pub enum RecordRead {
     Flag,
 }
 
+// The record that bytes stand for, or the lowest number that refuses them.
 pub fn read_record(bytes: &[u8]) -> RecordRead
     ensures { λ r. ⌜ recordRead r ≡ readRecord (now (bytes .entry)) ⌝ }
 {

@@ -12,7 +12,7 @@ use Rattle.esc_feedback.specs.declared.answer.WireUpdate.{WireUpdate}
 use Rattle.esc_feedback.specs.declared.answer.WireUpdate.the-variants as update
 use Rattle.esc_feedback.specs.declared.manager.EscManager.{EscManager}
 use Rattle.esc_unit.specs.Entry.{enteredIn}
-use Rattle.esc_unit.specs.Unit.{stepped, ackedOn, receivedOn, recoveredOn, stepOf}
+use Rattle.esc_unit.specs.Unit.{stepped, ackedOn, wireStepped, recoveredOn, stepOf}
 use Rattle.esc_unit.specs.Managed.{ackedBy, receivedBy, recoveredBy, managedBy}
 use Rattle.esc_records.specs.declared.record.Record.{Record}
 use Rattle.esc_records.specs.declared.record.Record.the-variants as kind
@@ -39,7 +39,7 @@ module _ (m : EscManager) (b : Books) where
   acks now outcome.Accepted = refl
   acks now (outcome.Sample u) = refl
 
-  receives : (now : ℕ) (w : WireUpdate) → receivedOn m b now w ≡ settled b (receivedBy m now w)
+  receives : (now : ℕ) (w : WireUpdate) → wireStepped m b now w ≡ settled b (receivedBy m now w)
   unfolding enteredIn
   receives now update.None = refl
   receives now (update.Some u) = refl

@@ -24,8 +24,8 @@ abbrev pub booksOf : EscSamples → Bool → EscIdleQualification → Figures �
 booksOf s c i f = record { samples = s; checking = c; idle = i; figures = f }
 
 -- settings that nothing asks: there is no check yet
-abbrev noSettings : EscIdleQualificationConfig
-noSettings =
+abbrev noIdleSettings : EscIdleQualificationConfig
+noIdleSettings =
     record {
       «min_erpm_div100» = 0;
       «max_erpm_div100» = 0;
@@ -36,7 +36,7 @@ noSettings =
     }
 
 abbrev pub noBooks : Books
-noBooks = booksOf noSamples false (newIdle noSettings 0) noFigures
+noBooks = booksOf noSamples false (newIdle noIdleSettings 0) noFigures
 
 -- 0a replaces the check
 abbrev pub checkedBy : Books → EscIdleQualificationConfig → ℕ → Books
@@ -46,12 +46,12 @@ checkedBy b c start = booksOf (b .samples) true (newIdle c start) (b .figures)
 abbrev pub samplesDropped : Books → Books
 samplesDropped b = booksOf noSamples (b .checking) (b .idle) (b .figures)
 
-abbrev pub judged : Books → EscIdleJudged → Booked
-judged b j = record { books = booksOf (b .samples) (b .checking) (j .idle) (b .figures); status = Status (j .status) }
+abbrev pub booksJudged : Books → EscIdleJudged → Booked
+booksJudged b j = record { books = booksOf (b .samples) (b .checking) (j .idle) (b .figures); status = Status (j .status) }
 
 -- without a check the status is 'no check'
 abbrev pub ifChecking : Books → EscIdleJudged → Booked
-ifChecking b j = pick (b .checking) (judged b j) (record { books = b; status = NoCheck })
+ifChecking b j = pick (b .checking) (booksJudged b j) (record { books = b; status = NoCheck })
 
 -- a delivered sample is stored, counted in the figures and passed to `observe`
 unfoldable pub bookedIn : Books → EscTelemetryUpdate → ℕ → Booked

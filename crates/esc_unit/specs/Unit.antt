@@ -37,8 +37,8 @@ use Rattle.esc_unit.specs.declared.unit.Unit.{Unit}
 use Rattle.esc_unit.specs.declared.unit.Stepped.{Stepped}
 
 -- settings that nothing asks: the unit was never opened
-abbrev noSettings : EscManagerConfig
-noSettings =
+abbrev noManagerSettings : EscManagerConfig
+noManagerSettings =
     record {
       «boot_delay_ms» = 0;
       «request_period_ms» = 0;
@@ -48,7 +48,7 @@ noSettings =
     }
 
 abbrev pub neverOpened : Unit
-neverOpened = record { opened = false; manager = newManager noSettings 0; books = noBooks }
+neverOpened = record { opened = false; manager = newManager noManagerSettings 0; books = noBooks }
 
 abbrev pub unitOf : EscManager → Books → Unit
 unitOf m b = record { opened = true; manager = m; books = b }
@@ -57,8 +57,8 @@ abbrev pub stepped : EscManager → Books → Answer → Stepped
 stepped m b a = record { unit = unitOf m b; answer = a }
 
 -- a delivered sample goes to the books, with now the T of 05 or the second T of 03
-abbrev delivered : (EscTelemetryUpdate → Booked → Answer) → EscManager → Books → EscTelemetryUpdate → ℕ → Stepped
-delivered says m b u now = stepped m (bookedIn b u now .books) (says u (bookedIn b u now))
+abbrev bookedStep : (EscTelemetryUpdate → Booked → Answer) → EscManager → Books → EscTelemetryUpdate → ℕ → Stepped
+bookedStep says m b u now = stepped m (bookedIn b u now .books) (says u (bookedIn b u now))
 
 abbrev ackSample : EscTelemetryUpdate → Booked → Answer
 ackSample u k = answer.Ack (ack.Sample (record { update = u; status = k .status }))
@@ -69,11 +69,11 @@ wireSample u k = answer.Wire (wire.Sample (record { update = u; status = k .stat
 abbrev pub ackedOn : EscManager → Books → ℕ → EscAckOutcome → Stepped
 ackedOn m b now outcome.Rejected = stepped m b (answer.Ack ack.Rejected)
 ackedOn m b now outcome.Accepted = stepped m b (answer.Ack ack.Accepted)
-ackedOn m b now (outcome.Sample u) = delivered ackSample m b u now
+ackedOn m b now (outcome.Sample u) = bookedStep ackSample m b u now
 
-abbrev pub receivedOn : EscManager → Books → ℕ → WireUpdate → Stepped
-receivedOn m b now update.None = stepped m b (answer.Wire wire.None)
-receivedOn m b now (update.Some u) = delivered wireSample m b u now
+abbrev pub wireStepped : EscManager → Books → ℕ → WireUpdate → Stepped
+wireStepped m b now update.None = stepped m b (answer.Wire wire.None)
+wireStepped m b now (update.Some u) = bookedStep wireSample m b u now
 
 abbrev pub recoveredOn : EscManager → Books → Bool → Stepped
 recoveredOn m b true = stepped m (samplesDropped b) (answer.Decided true)
@@ -89,7 +89,7 @@ stepOf m b (kind.NextRequest now) = stepped m b (answer.Request (nextRequest m n
 stepOf m b (kind.MarkRequestQueued q now) = stepped (markQueued m q now .manager) b (answer.Decided (markQueued m q now .answer))
 stepOf m b (kind.ActuatorAck k now) = ackedOn (onAck m k .manager) b now (onAck m k .answer)
 stepOf m b (kind.PollTimeout now) = stepped (pollTimeout m now .manager) b (answer.Timeout (pollTimeout m now .answer))
-stepOf m b (kind.WireByte x now) = receivedOn (pushWire m x now .manager) b now (pushWire m x now .answer)
+stepOf m b (kind.WireByte x now) = wireStepped (pushWire m x now .manager) b now (pushWire m x now .answer)
 stepOf m b kind.WireDiscontinuity = stepped (cutWire m) b answer.Done
 stepOf m b (kind.TryRecover armed now) = recoveredOn (tryRecover m now armed .manager) b (tryRecover m now armed .answer)
 stepOf m b kind.TakeBackAfterRetries = stepped (takeBack m .manager) b (answer.BackAfterRetries (takeBack m .answer))

@@ -2,7 +2,7 @@
 // figures. It stands beside the manager, so that the calls of the wire do not move it.
 ghost use mathlib.Core.Path.{_≡_};
 ghost use Rattle.esc_unit.specs.Figures.{figureAt};
-ghost use Rattle.esc_unit.specs.Books.{noBooks, checkedBy, samplesDropped, judged, bookedIn, idleStatus, storedAt};
+ghost use Rattle.esc_unit.specs.Books.{noBooks, checkedBy, samplesDropped, booksJudged, bookedIn, idleStatus, storedAt};
 use crate::figures::Figures;
 use esc_feedback::EscOutput;
 use esc_feedback::EscSamples;
@@ -94,6 +94,7 @@ impl Books {
         books.judged(idle.observe(update, now_ms))
     }
 
+    // What the idle check says at a time, and the books with its verdict.
     pub fn idle_status(self, now_ms: u64) -> Booked
         ensures { λ r. ⌜ r ≡ idleStatus self «now_ms» ⌝ }
     {
@@ -109,7 +110,7 @@ impl Books {
 
     // The check as it judged, and what it said.
     fn judged(self, found: EscIdleJudged) -> Booked
-        ensures { λ r. ⌜ r ≡ judged self found ⌝ }
+        ensures { λ r. ⌜ r ≡ booksJudged self found ⌝ }
     {
         let mut books = self;
         let idle = found.idle;
@@ -121,6 +122,7 @@ impl Books {
         }
     }
 
+    // 0d: the lane's newest sample since the latest recovery.
     pub fn stored(self, output: EscOutput) -> StoredAnswer
         ensures { λ r. ⌜ r ≡ storedAt self output ⌝ }
     {
@@ -135,6 +137,7 @@ impl Books {
         }
     }
 
+    // 0e: the lane's figures.
     pub fn figure(self, output: EscOutput) -> Figure
         ensures { λ r. ⌜ r ≡ figureAt (self .figures) output ⌝ }
     {

@@ -50,6 +50,7 @@ pub struct Entered {
 }
 
 impl Books {
+    // The books after an entry, and the answer that they give.
     pub fn entered(self, entry: Entry) -> Entered
         ensures { λ r. ⌜ r ≡ enteredIn self entry ⌝ }
     {

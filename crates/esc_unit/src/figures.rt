@@ -14,6 +14,7 @@ pub struct Figures {
 }
 
 impl Figures {
+    // No sample in any lane.
     pub fn new() -> Self
         ensures { λ r. ⌜ r ≡ noFigures ⌝ }
     {
@@ -22,6 +23,7 @@ impl Figures {
         Self { lanes }
     }
 
+    // A lane's figures.
     pub fn at(self, output: EscOutput) -> Figure
         ensures { λ r. ⌜ r ≡ figureAt self output ⌝ }
     {

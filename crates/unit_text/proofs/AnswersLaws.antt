@@ -17,7 +17,7 @@ use Rattle.esc_unit.specs.Admission.{onAdmitted}
 use Rattle.esc_records.specs.Answer.{wireBytes, bodyBytes, answerBytes, replyBytes}
 use Rattle.esc_unit.specs.Entry.{enteredIn}
 use Rattle.esc_unit.specs.Managed.{managedBy}
-use Rattle.esc_unit.specs.Unit.{Replied, unitOf, stepped, receivedOn, stepOf, refusing, accepting}
+use Rattle.esc_unit.specs.Unit.{Replied, unitOf, stepped, wireStepped, stepOf, refusing, accepting}
 use Rattle.esc_records.specs.declared.answer.Answer.{Answer}
 use Rattle.esc_records.specs.declared.answer.Answer.the-variants as answer
 use Rattle.esc_records.specs.declared.answer.WireAnswer.the-variants as wire
@@ -41,7 +41,7 @@ answer-taken u (accepted s) = call-admission u s 43
 held : (m : EscManager) (b : Books) (x t : ℕ) → ltb (m .parser .len) 9 ≡ true
     → stepOf m b (kind.WireByte x t) ≡ stepped (setParser (collected (m .parser) x .parser) (heardBy m t)) b (answer.Wire wire.None)
 unfolding stepOf
-held m b x t few = ap (λ (r : Received). receivedOn (r .manager) b t (r .answer)) (pushed-collected m x t few)
+held m b x t few = ap (λ (r : Received). wireStepped (r .manager) b t (r .answer)) (pushed-collected m x t few)
 
 module _ (u : Unit) (l : Reply (List ℕ)) where
   pub answers-refused : (n : ℕ) → takenBy (u .opened) l ≡ refused n → Answers u l u (n ∷ [])

@@ -22,5 +22,5 @@ unfoldable pub glyphOf : ℕ → ℕ
 glyphOf v = pick (ltb v 10) (v + 0x30) (v - 10 + 0x61)
 
 -- a table of digits: at each character stands its value
-pub record Tabled (table : List ℕ) : Type 0 where
+pub record DigitTabled (table : List ℕ) : Type 0 where
   pub rule : (c : ℕ) → c < 256 → getD table c 0 ≡ digitOf c

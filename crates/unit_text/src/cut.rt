@@ -4,7 +4,7 @@ ghost use mathlib.Core.Path.{_≡_};
 ghost use mathlib.Core.List.{[], _∷_, _++_};
 ghost use Prim.Native.Nat.{_≤_};
 ghost use lib.ListN.{length, take};
-ghost use Rattle.unit_text.specs.Digit.{Tabled};
+ghost use Rattle.unit_text.specs.Digit.{DigitTabled};
 ghost use Rattle.unit_text.specs.Cut.{Holds, HeldTo, WholeFrom, EndedAt, CutFrom};
 use crate::digit::NO_DIGIT;
 use crate::line::LINE_END;
@@ -43,7 +43,7 @@ pub(crate) fn next_line(
     held: usize,
     bytes: &mut [u8],
 ) -> Cut
-    requires { ⌜ Tabled (now digits) × (length (now bytes) ≡ 29) × (length (now buffer) ≡ 59) × (held ≤ 59) ⌝ }
+    requires { ⌜ DigitTabled (now digits) × (length (now bytes) ≡ 29) × (length (now buffer) ≡ 59) × (held ≤ 59) ⌝ }
     ensures { λ r. ⌜ CutFrom (take held (now (buffer .entry))) (now (chunk .entry)) r (now (buffer .exit)) (now (bytes .exit)) ⌝ }
 {
     if held == 0 {
@@ -64,7 +64,7 @@ fn held_line(
     held: usize,
     bytes: &mut [u8],
 ) -> Cut
-    requires { ⌜ Tabled (now digits) × (length (now bytes) ≡ 29) × (length (now buffer) ≡ 59) × (held ≤ 59) ⌝ }
+    requires { ⌜ DigitTabled (now digits) × (length (now bytes) ≡ 29) × (length (now buffer) ≡ 59) × (held ≤ 59) ⌝ }
     ensures { λ r. ⌜ CutFrom (take held (now (buffer .entry))) (now (chunk .entry)) r (now (buffer .exit)) (now (bytes .exit)) ⌝ }
 {
     let h = hold(chunk, buffer, held);
@@ -78,7 +78,7 @@ fn held_line(
 
 // Reads a line from where it stands, as nearly every line can be.
 fn whole_line(digits: &[u8; 256], chunk: &[u8], bytes: &mut [u8]) -> Whole
-    requires { ⌜ Tabled (now digits) × (length (now bytes) ≡ 29) ⌝ }
+    requires { ⌜ DigitTabled (now digits) × (length (now bytes) ≡ 29) ⌝ }
     ensures { λ r. ⌜ WholeFrom (now (chunk .entry)) r (now (bytes .exit)) ⌝ }
 {
     let mut place: usize = 0;

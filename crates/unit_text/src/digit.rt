@@ -1,13 +1,13 @@
 // The digits of a line: 0-9 and a-f.
 ghost use mathlib.Core.Path.{_≡_};
 ghost use Prim.Native.Nat.{_<_};
-ghost use Rattle.unit_text.specs.Digit.{digitOf, glyphOf, Tabled};
+ghost use Rattle.unit_text.specs.Digit.{digitOf, glyphOf, DigitTabled};
 
 pub(crate) const NO_DIGIT: u8 = 16;
 
 // The value of each character. A line is read by this table: it is taken once, before a loop, and lent.
 pub(crate) fn digits() -> [u8; 256]
-    ensures { λ r. ⌜ Tabled r ⌝ }
+    ensures { λ r. ⌜ DigitTabled r ⌝ }
 {
     let mut table = [NO_DIGIT; 256];
     let mut character: usize = 0;

@@ -3,7 +3,7 @@ ghost use mathlib.Core.Path.{_≡_};
 ghost use Prim.Native.Nat.{_+_, _*_, _<_, _≤_};
 ghost use lib.ListN.{length};
 ghost use Rattle.base.specs.BigEndian.{overwrite};
-ghost use Rattle.unit_text.specs.Digit.{digitOf, Tabled};
+ghost use Rattle.unit_text.specs.Digit.{digitOf, DigitTabled};
 ghost use Rattle.unit_text.specs.Line.{readLine, printedLine, lineRead, recordLength};
 use crate::digit::NO_DIGIT;
 use crate::digit::glyph;
@@ -24,7 +24,7 @@ pub(crate) enum LineRead {
 
 // Puts the bytes that a line stands for in front of `bytes`.
 pub(crate) fn read_line(digits: &[u8; 256], line: &[u8], bytes: &mut [u8]) -> LineRead
-    requires { ⌜ Tabled (now digits) × (length (now bytes) ≡ 29) ⌝ }
+    requires { ⌜ DigitTabled (now digits) × (length (now bytes) ≡ 29) ⌝ }
     ensures { λ r. ⌜ (lineRead r (now (bytes .exit)) ≡ readLine (now (line .entry))) × (recordLength r ≤ 29) ⌝ }
 {
     let count = line.len();
@@ -56,7 +56,7 @@ pub(crate) fn read_line(digits: &[u8; 256], line: &[u8], bytes: &mut [u8]) -> Li
 }
 
 pub(crate) fn value(digits: &[u8; 256], character: u8) -> u8
-    requires { ⌜ Tabled (now digits) ⌝ }
+    requires { ⌜ DigitTabled (now digits) ⌝ }
     ensures { λ r. ⌜ r ≡ digitOf character ⌝ }
 {
     let entry = character as usize;

@@ -1,7 +1,7 @@
 // A line with a wire byte, as most lines of a session are: it is read straight into its numbers.
 ghost use mathlib.Core.Path.{_≡_};
 ghost use Prim.Native.Nat.{_<_};
-ghost use Rattle.unit_text.specs.Digit.{Tabled};
+ghost use Rattle.unit_text.specs.Digit.{DigitTabled};
 ghost use Rattle.unit_text.specs.WireLine.{WireFrom, HeldFrom};
 use crate::digit::NO_DIGIT;
 use crate::line::LINE_END;
@@ -27,7 +27,7 @@ pub(crate) fn held_byte(
     opened: bool,
     parser: StreamParser,
 ) -> WireLine
-    requires { ⌜ Tabled (now digits) ⌝ }
+    requires { ⌜ DigitTabled (now digits) ⌝ }
     ensures { λ r. ⌜ HeldFrom held opened parser (now (chunk .entry)) r ⌝ }
 {
     if held != 0 {
@@ -43,7 +43,7 @@ pub(crate) fn held_byte(
 }
 
 fn wire_line(digits: &[u8; 256], chunk: &[u8]) -> WireLine
-    requires { ⌜ Tabled (now digits) ⌝ }
+    requires { ⌜ DigitTabled (now digits) ⌝ }
     ensures { λ r. ⌜ WireFrom (now (chunk .entry)) r ⌝ }
 {
     if chunk.len() <= WIRE_LINE {

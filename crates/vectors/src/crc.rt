@@ -2,6 +2,7 @@
 use crate::print;
 use blheli_telemetry::crc8;
 
+// The CRC's vectors.
 pub fn run() {
     // Document 01.
     vector(b"nothing", b"");

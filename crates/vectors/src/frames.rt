@@ -5,6 +5,7 @@ use blheli_telemetry::EscTelemetry;
 use blheli_telemetry::decode;
 use blheli_telemetry::encode;
 
+// Frames read and written.
 pub fn run() {
     // Document 01.
     vector(b"ten zeros", b"\x00\x00\x00\x00\x00\x00\x00\x00\x00\x00");

@@ -3,18 +3,22 @@
 use blheli_telemetry::EscTelemetry;
 use libc::STDOUT_FILENO;
 
+// Words as they are.
 pub fn text(words: &[u8]) {
     io::write_all(STDOUT_FILENO, words);
 }
 
+// A number.
 pub fn decimal(n: u64) {
     io::print_decimal(STDOUT_FILENO, n);
 }
 
+// A byte as two digits.
 pub fn byte(b: u8) {
     io::print_hex(STDOUT_FILENO, b as u64, 2);
 }
 
+// Bytes, two digits each.
 pub fn bytes(b: &[u8]) {
     let mut i: usize = 0;
     while i < b.len() {

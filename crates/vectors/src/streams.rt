@@ -4,6 +4,7 @@ use crate::print;
 use blheli_telemetry::Parsed;
 use blheli_telemetry::StreamParser;
 
+// Streams through the parser.
 pub fn run() {
     // Three bytes of noise, then a frame.
     vector(

@@ -1,6 +1,6 @@
 // Acknowledgements: a request has been sent to its ESC.
 ghost use mathlib.Core.Path.{_≡_};
-ghost use Rattle.esc_feedback.specs.Ack.{onAck, mismatched, started};
+ghost use Rattle.esc_feedback.specs.Ack.{onAck, rejectedAck, startedBy};
 use crate::answer::EscAckOutcome;
 use crate::line::EarlyObservation;
 use crate::line::Line;
@@ -17,6 +17,7 @@ pub struct Acked {
 }
 
 impl EscManager {
+    // 03: the open request was started, and a frame that was held for it is delivered; any other is counted.
     pub fn on_actuator_ack(self, ack: EscActuatorAck) -> Acked
         ensures { λ r. ⌜ r ≡ onAck self ack ⌝ }
     {
@@ -43,7 +44,7 @@ impl EscManager {
     }
 
     fn mismatched(self) -> Acked
-        ensures { λ r. ⌜ r ≡ mismatched self ⌝ }
+        ensures { λ r. ⌜ r ≡ rejectedAck self ⌝ }
     {
         let mut m = self;
         let mismatched_acks = one_more(m.stats.mismatched_acks);
@@ -61,7 +62,7 @@ impl EscManager {
         started_at_ms: u64,
         early: EarlyObservation,
     ) -> Acked
-        ensures { λ r. ⌜ r ≡ started self request «started_at_ms» early ⌝ }
+        ensures { λ r. ⌜ r ≡ startedBy self request «started_at_ms» early ⌝ }
     {
         let mut m = self;
         let requests_started = one_more(m.stats.requests_started);

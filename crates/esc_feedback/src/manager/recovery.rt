@@ -1,6 +1,6 @@
 // Recovery: telemetry resumes after a timeout.
 ghost use mathlib.Core.Path.{_≡_};
-ghost use Rattle.esc_feedback.specs.Recovery.{tryRecover, recovered};
+ghost use Rattle.esc_feedback.specs.Recovery.{tryRecover, recoveredManager};
 use crate::line::Line;
 use crate::manager::EscManager;
 use crate::stats::one_more;
@@ -31,7 +31,7 @@ impl EscManager {
     }
 
     fn recovered(self) -> EscManager
-        ensures { λ r. ⌜ r ≡ recovered self ⌝ }
+        ensures { λ r. ⌜ r ≡ recoveredManager self ⌝ }
     {
         let mut m = self.record_wire_discontinuity();
         let line = Line::closed();

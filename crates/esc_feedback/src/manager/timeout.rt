@@ -14,6 +14,7 @@ pub struct Polled {
 }
 
 impl EscManager {
+    // 04: the open request is given up once its time is over.
     pub fn poll_timeout(self, now_ms: u64) -> Polled
         ensures { λ r. ⌜ r ≡ pollTimeout self «now_ms» ⌝ }
     {

@@ -1,6 +1,6 @@
 // The wire: bytes, and the frames that they make.
 ghost use mathlib.Core.Path.{_≡_};
-ghost use Rattle.esc_feedback.specs.Wire.{pushWire, framed, cutWire, refreshed};
+ghost use Rattle.esc_feedback.specs.Wire.{pushWire, frameTaken, cutWire, refreshed};
 use crate::answer::WireUpdate;
 use crate::line::EarlyObservation;
 use crate::line::Line;
@@ -16,6 +16,7 @@ pub struct Received {
 }
 
 impl EscManager {
+    // 05: a byte from the wire; one that ends a frame may answer the open request.
     pub fn push_wire_byte(self, byte: u8, observed_at_ms: u64) -> Received
         ensures { λ r. ⌜ r ≡ pushWire self byte «observed_at_ms» ⌝ }
     {
@@ -41,7 +42,7 @@ impl EscManager {
     // A frame: held for a request that is not yet acknowledged, the sample of one that is, and
     // unsolicited where nothing is open.
     fn framed(self, sample: EscTelemetry, observed_at_ms: u64) -> Received
-        ensures { λ r. ⌜ r ≡ framed self sample «observed_at_ms» ⌝ }
+        ensures { λ r. ⌜ r ≡ frameTaken self sample «observed_at_ms» ⌝ }
     {
         let mut m = self;
         let line = m.line;
@@ -93,6 +94,7 @@ impl EscManager {
         m
     }
 
+    // 09: the parser's counts are copied into the manager's; otherwise only a sample renews them.
     pub fn refresh_wire_stats(self) -> EscManager
         ensures { λ r. ⌜ r ≡ refreshed self ⌝ }
     {

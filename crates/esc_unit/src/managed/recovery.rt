@@ -8,6 +8,7 @@ use esc_feedback::EscManager;
 use esc_records::Answer;
 use esc_records::Record;
 
+// 07: a recovery drops the stored samples, so the books have it too.
 pub fn try_recover(manager: EscManager, armed: bool, now_ms: u64) -> Managed
     ensures { λ r. ⌜ r ≡ managedBy manager (Record.TryRecover armed «now_ms») ⌝ }
 {
@@ -25,6 +26,7 @@ pub fn try_recover(manager: EscManager, armed: bool, now_ms: u64) -> Managed
     }
 }
 
+// 08
 pub fn take_back_after_retries(manager: EscManager) -> Managed
     ensures { λ r. ⌜ r ≡ managedBy manager Record.TakeBackAfterRetries ⌝ }
 {

@@ -8,6 +8,7 @@ use esc_records::Answer;
 use esc_records::Record;
 use esc_records::UnitReport;
 
+// 0c
 pub fn report(manager: EscManager) -> Managed
     ensures { λ r. ⌜ r ≡ managedBy manager Record.Report ⌝ }
 {

@@ -12,6 +12,7 @@ use esc_records::AckAnswer;
 use esc_records::Answer;
 use esc_records::Record;
 
+// 01
 pub fn next_request(manager: EscManager, now_ms: u64) -> Managed
     ensures { λ r. ⌜ r ≡ managedBy manager (Record.NextRequest «now_ms») ⌝ }
 {
@@ -22,6 +23,7 @@ pub fn next_request(manager: EscManager, now_ms: u64) -> Managed
     }
 }
 
+// 02
 pub fn mark_request_queued(manager: EscManager, request: EscActuatorRequest, now_ms: u64) -> Managed
     ensures { λ r. ⌜ r ≡ managedBy manager (Record.MarkRequestQueued request «now_ms») ⌝ }
 {
@@ -56,6 +58,7 @@ pub fn on_actuator_ack(manager: EscManager, ack: EscActuatorAck, now_ms: u64) ->
     }
 }
 
+// 04
 pub fn poll_timeout(manager: EscManager, now_ms: u64) -> Managed
     ensures { λ r. ⌜ r ≡ managedBy manager (Record.PollTimeout «now_ms») ⌝ }
 {

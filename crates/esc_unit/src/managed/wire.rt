@@ -10,6 +10,7 @@ use esc_records::Answer;
 use esc_records::Record;
 use esc_records::WireAnswer;
 
+// 05: a delivered sample goes on to the books.
 pub fn push_wire_byte(manager: EscManager, byte: u8, observed_at_ms: u64) -> Managed
     ensures { λ r. ⌜ r ≡ managedBy manager (Record.WireByte byte «observed_at_ms») ⌝ }
 {

@@ -3,7 +3,7 @@ use borrow.Author.Needs.{needs}
 use native.Mathlib.Omega.{arith}
 use mathlib.Core.Path.{refl, ap, _∙_}
 use Rattle.blheli_telemetry.specs.declared.parser.ParserStats.{ParserStats}
-use Rattle.c_calls.specs.Stream.{counted}
+use Rattle.c_calls.specs.Stream.{countsIn}
 use Rattle.c_calls.proofs.FitsLaws.{few-marks, few-fields, few-counts, all-fit}
 use Rattle.c_calls.proofs.stream.esc_stream_parse.Statement.{statement}
 use Rattle.c_calls.proofs.stream.esc_stream_parse.Tie as tie
@@ -46,7 +46,7 @@ returns-4 c =
     let found = a .counts .now in
     let room = all-fit (a .bytes .now) (a .gave .now) (a .fields .now) (a .counts .now) (omega (arith, t .before .before .if1 .left)) (omega (arith, t .before .if2 .left)) (omega (arith, t .if3 .left)) in
     rw room
-    (refl, (r .run .ensures .1 .0, (r .run .ensures .1 .1, c .before .before .put-counts .ensures ∙ ap (λ (s : ParserStats). counted s found) (r .run .ensures .0))))
+    (refl, (r .run .ensures .1 .0, (r .run .ensures .1 .1, c .before .before .put-counts .ensures ∙ ap (λ (s : ParserStats). countsIn s found) (r .run .ensures .0))))
 
 pub esc-stream-parse-spec : {M : Type 1} → statement M
 esc-stream-parse-spec =

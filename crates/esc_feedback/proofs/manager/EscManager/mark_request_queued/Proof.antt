@@ -1,7 +1,7 @@
 -- Yes where the request is the one that exists, else no.
 use mathlib.Core.Path.{ap, sym, _∙_}
 use borrow.Author.Tests.{not-true, not-false}
-use Rattle.esc_feedback.specs.Queueing.{names}
+use Rattle.esc_feedback.specs.Queueing.{isWanted}
 use Rattle.esc_feedback.proofs.QueueingLaws.{marked-yes, marked-no}
 use borrow.Author.Needs.{needs}
 use Rattle.esc_feedback.proofs.manager.EscManager.mark_request_queued.Statement.{statement}
@@ -17,19 +17,19 @@ enum-told : tie.Need-enum-told
 enum-told c = search needs
 
 returns : tie.Need-returns
-returns c = sym (marked-no _ _ _ (ap (names (c .before .before .before .args .request)) (sym (c .before .before .next-request .ensures) ∙ c .enum-told .given .1)))
+returns c = sym (marked-no _ _ _ (ap (isWanted (c .before .before .before .args .request)) (sym (c .before .before .next-request .ensures) ∙ c .enum-told .given .1)))
 
 same-requires : tie.Need-same-requires
 same-requires c κs = search needs
 
 returns-2 : tie.Need-returns-2
-returns-2 c = sym (marked-no _ _ _ (ap (names (c .before .before .before .before .before .before .args .request)) (sym (c .before .before .before .before .before .next-request .ensures) ∙ c .before .before .before .wanted .given .1) ∙ sym (c .before .same .ensures) ∙ not-true _ (c .if1 .taken)))
+returns-2 c = sym (marked-no _ _ _ (ap (isWanted (c .before .before .before .before .before .before .args .request)) (sym (c .before .before .before .before .before .next-request .ensures) ∙ c .before .before .before .wanted .given .1) ∙ sym (c .before .same .ensures) ∙ not-true _ (c .if1 .taken)))
 
 granted-requires : tie.Need-granted-requires
 granted-requires c κs = search needs
 
 returns-3 : tie.Need-returns-3
-returns-3 c = rw (c .granted .ensures) (sym (marked-yes _ _ _ (ap (names (c .before .before .before .before .before .before .before .args .request)) (sym (c .before .before .before .before .before .before .next-request .ensures) ∙ c .before .before .before .before .wanted .given .1) ∙ sym (c .before .before .same .ensures) ∙ not-false _ (c .before .if1 .left))))
+returns-3 c = rw (c .granted .ensures) (sym (marked-yes _ _ _ (ap (isWanted (c .before .before .before .before .before .before .before .args .request)) (sym (c .before .before .before .before .before .before .next-request .ensures) ∙ c .before .before .before .before .wanted .given .1) ∙ sym (c .before .before .same .ensures) ∙ not-false _ (c .before .if1 .left))))
 
 pub mark-request-queued-spec : {M : Type 1} → statement M
 mark-request-queued-spec =

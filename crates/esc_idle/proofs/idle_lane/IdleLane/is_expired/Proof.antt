@@ -3,7 +3,7 @@ use borrow.Author.Needs.{needs}
 use native.Mathlib.Omega.{arith}
 use mathlib.Core.Path.{sym, ap, _∙_}
 use Rattle.base.specs.Due.{due}
-use Rattle.esc_idle.specs.IdleLane.{expired}
+use Rattle.esc_idle.specs.IdleLane.{newestExpired}
 use Rattle.esc_idle.proofs.IdleLaneLaws.{expired-none, expired-at}
 use Rattle.esc_idle.proofs.idle_lane.IdleLane.is_expired.Statement.{statement}
 use Rattle.esc_idle.proofs.idle_lane.IdleLane.is_expired.Tie as tie
@@ -17,7 +17,7 @@ enum-told c = search needs
 returns : tie.Need-returns
 returns c =
     let s = c .before .before .args in
-    sym (ap (expired (s .max-sample-age-ms) (s .now-ms)) (c .enum-told .given .1) ∙ expired-none (s .max-sample-age-ms) (s .now-ms))
+    sym (ap (newestExpired (s .max-sample-age-ms) (s .now-ms)) (c .enum-told .given .1) ∙ expired-none (s .max-sample-age-ms) (s .now-ms))
 
 saturating-inc-requires : tie.Need-saturating-inc-requires
 saturating-inc-requires c κs = search needs
@@ -31,7 +31,7 @@ returns-2 c =
     let s = d .before .before .args in
     c .elapsed-at-least .ensures
     ∙ ap (due (d .newest .given .0 .0) (s .now-ms)) (omega arith)
-    ∙ sym (ap (expired (s .max-sample-age-ms) (s .now-ms)) (d .newest .given .1) ∙ expired-at (s .max-sample-age-ms) (s .now-ms) (d .newest .given .0 .0))
+    ∙ sym (ap (newestExpired (s .max-sample-age-ms) (s .now-ms)) (d .newest .given .1) ∙ expired-at (s .max-sample-age-ms) (s .now-ms) (d .newest .given .0 .0))
 
 pub is-expired-spec : {M : Type 1} → statement M
 is-expired-spec =
