@@ -16,7 +16,7 @@ use Rattle.blheli_telemetry.proofs.StreamLaws.{given-by-held, held-by-held, cou
 use Rattle.esc_feedback.specs.Output.{laneOf}
 use Rattle.esc_feedback.specs.Request.{sameRequest}
 use Rattle.esc_feedback.specs.Stats.{statsOf}
-use Rattle.esc_feedback.specs.Line.{lineOf, closedLine}
+use Rattle.esc_feedback.specs.Outstanding.{outstandingOf, noneOutstanding}
 use Rattle.esc_feedback.specs.Fault.{faultOf, afterHearing}
 use Rattle.esc_feedback.specs.Manager.{managerOf, noted, newManager, closedBySample}
 use Rattle.esc_feedback.specs.declared.config.EscManagerConfig.{EscManagerConfig}
@@ -25,11 +25,11 @@ use Rattle.esc_feedback.specs.declared.stats.EscManagerStats.{EscManagerStats}
 use Rattle.esc_feedback.specs.declared.turn.LastRequest.{LastRequest}
 use Rattle.esc_feedback.specs.declared.turn.LastRequest.the-variants as last
 use Rattle.esc_feedback.specs.declared.turn.Turn.{Turn}
-use Rattle.esc_feedback.specs.declared.line.EarlyObservation.{EarlyObservation}
-use Rattle.esc_feedback.specs.declared.line.EarlyObservation.the-variants as early
-use Rattle.esc_feedback.specs.declared.line.PendingRequest.{PendingRequest}
-use Rattle.esc_feedback.specs.declared.line.PendingRequest.the-variants as pending
-use Rattle.esc_feedback.specs.declared.line.Line.{Line}
+use Rattle.esc_feedback.specs.declared.outstanding.EarlyObservation.{EarlyObservation}
+use Rattle.esc_feedback.specs.declared.outstanding.EarlyObservation.the-variants as early
+use Rattle.esc_feedback.specs.declared.outstanding.PendingRequest.{PendingRequest}
+use Rattle.esc_feedback.specs.declared.outstanding.PendingRequest.the-variants as pending
+use Rattle.esc_feedback.specs.declared.outstanding.Outstanding.{Outstanding}
 use Rattle.esc_feedback.specs.declared.manager.EscManager.{EscManager}
 use Rattle.base.specs.Maybe.{is}
 use Rattle.booking.specs.History.{Opening, Timed, Requests, Wire, Idle, Seen, Past}
@@ -61,8 +61,8 @@ abbrev pub pendingFrom : Option Timed → (EscActuatorRequest → Option ℕ) �
 pendingFrom none s f = pending.None
 pendingFrom (some q) s f = pendingOn q (s (q .request)) f
 
-abbrev pub lineAt : Past → Line
-lineAt h = lineOf (pendingFrom (openRequest h) (startedAt h) (latestFrame h))
+abbrev pub lineAt : Past → Outstanding
+lineAt h = outstandingOf (pendingFrom (openRequest h) (startedAt h) (latestFrame h))
 
 abbrev pub wireStats : Past → ParserStats
 wireStats h =
@@ -163,15 +163,15 @@ unfolding afterHearing
 heard-is true q r t = refl
 heard-is false q r t = refl
 
-pub delivered-is : (c : EscManagerConfig) (b : ℕ) (t : Turn) (l : Line) (f : Bool) (q r : ℕ) (n : Option ℕ) (p : StreamParser) (s : EscManagerStats)
+pub delivered-is : (c : EscManagerConfig) (b : ℕ) (t : Turn) (l : Outstanding) (f : Bool) (q r : ℕ) (n : Option ℕ) (p : StreamParser) (s : EscManagerStats)
     → closedBySample (managerOf c b t l (faultOf f q r) (noted (noteAnswer n)) p s)
-    ≡ managerOf c b t closedLine (faultOf f q 0) (noted (noteAnswer (pick (eqb r 0) n (some r)))) p s
+    ≡ managerOf c b t noneOutstanding (faultOf f q 0) (noted (noteAnswer (pick (eqb r 0) n (some r)))) p s
 unfolding closedBySample
 delivered-is c b t l f q r n p s = go (eqb r 0) refl
   where
     go : (z : Bool) → eqb r 0 ≡ z
         → closedBySample (managerOf c b t l (faultOf f q r) (noted (noteAnswer n)) p s)
-        ≡ managerOf c b t closedLine (faultOf f q 0) (noted (noteAnswer (pick z n (some r)))) p s
+        ≡ managerOf c b t noneOutstanding (faultOf f q 0) (noted (noteAnswer (pick z n (some r)))) p s
     go true e = rw (eqb-true r 0 e)
     go false e = rw e
 

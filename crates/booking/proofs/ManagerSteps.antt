@@ -11,7 +11,7 @@ use Rattle.blheli_telemetry.specs.Parser.{pushOf, resetOf}
 use Rattle.blheli_telemetry.specs.declared.parser.StreamParser.{StreamParser}
 use Rattle.base.specs.Due.{due}
 use Rattle.esc_feedback.specs.Output.{laneOf, laneAfter}
-use Rattle.esc_feedback.specs.Line.{isOpen}
+use Rattle.esc_feedback.specs.Outstanding.{isOpen}
 use Rattle.esc_feedback.specs.Turn.{periodDue}
 use Rattle.esc_feedback.specs.declared.output.Lane.{Lane}
 use Rattle.esc_feedback.specs.declared.output.Lane.the-variants.{Output1, Output2, Output3, Output4}

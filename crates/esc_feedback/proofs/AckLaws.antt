@@ -10,19 +10,19 @@ use types.Run.{OneOf}
 use Rattle.base.specs.Choice.{pick}
 use Rattle.esc_feedback.specs.Request.{sameRequest, updateOf}
 use Rattle.esc_feedback.specs.Stats.{requestsStarted}
-use Rattle.esc_feedback.specs.Line.{startedLine}
-use Rattle.esc_feedback.specs.Manager.{setLine, counting, heardBy, closedBySample}
+use Rattle.esc_feedback.specs.Outstanding.{startedOutstanding}
+use Rattle.esc_feedback.specs.Manager.{setOutstanding, counting, heardBy, closedBySample}
 use Rattle.esc_feedback.specs.Ack.{rejectedAck, startedBy, ackOn, onAck}
 use Rattle.esc_feedback.specs.declared.request.EscActuatorRequest.{EscActuatorRequest}
 use Rattle.esc_feedback.specs.declared.request.EscActuatorAck.{EscActuatorAck}
 use Rattle.esc_feedback.specs.declared.request.EscTelemetryObservation.{EscTelemetryObservation}
 use Rattle.esc_feedback.specs.declared.answer.EscAckOutcome.the-variants as outcome
-use Rattle.esc_feedback.specs.declared.line.EarlyObservation.{EarlyObservation}
-use Rattle.esc_feedback.specs.declared.line.EarlyObservation.the-variants as early
-use Rattle.esc_feedback.specs.declared.line.PendingRequest.{PendingRequest}
-use Rattle.esc_feedback.specs.declared.line.PendingRequest.the-variants as pending
+use Rattle.esc_feedback.specs.declared.outstanding.EarlyObservation.{EarlyObservation}
+use Rattle.esc_feedback.specs.declared.outstanding.EarlyObservation.the-variants as early
+use Rattle.esc_feedback.specs.declared.outstanding.PendingRequest.{PendingRequest}
+use Rattle.esc_feedback.specs.declared.outstanding.PendingRequest.the-variants as pending
 use Rattle.esc_feedback.specs.declared.manager.EscManager.{EscManager}
-use Rattle.esc_feedback.proofs.line.PendingRequest.{the-type}
+use Rattle.esc_feedback.proofs.outstanding.PendingRequest.{the-type}
 
 ack-else-on : (m : EscManager) (a : EscActuatorAck) (p : PendingRequest) → OneOf (0 ∷ 2 ∷ []) (tagOf the-type p) → ackOn m a p ≡ rejectedAck m
 unfolding ackOn
@@ -36,20 +36,20 @@ module _ (m : EscManager) (a : EscActuatorAck) where
   heard = heardBy m (a .«started_at_ms»)
 
   -- nothing queued: a variant other than `Queued`
-  pub ack-else : OneOf (0 ∷ 2 ∷ []) (tagOf the-type (m .line .pending)) → onAck m a ≡ rejectedAck heard
+  pub ack-else : OneOf (0 ∷ 2 ∷ []) (tagOf the-type (m .outstanding .pending)) → onAck m a ≡ rejectedAck heard
   unfolding onAck
-  ack-else h = ack-else-on heard a (m .line .pending) h
+  ack-else h = ack-else-on heard a (m .outstanding .pending) h
 
-  pub ack-closed : m .line .pending ≡ pending.None → onAck m a ≡ rejectedAck heard
+  pub ack-closed : m .outstanding .pending ≡ pending.None → onAck m a ≡ rejectedAck heard
   unfolding onAck ackOn
   ack-closed e = ap (ackOn heard a) e
 
   module _ (q : EscActuatorRequest) (t : ℕ) where
-    pub ack-again : m .line .pending ≡ pending.Started q t → onAck m a ≡ rejectedAck heard
+    pub ack-again : m .outstanding .pending ≡ pending.Started q t → onAck m a ≡ rejectedAck heard
     unfolding onAck ackOn
     ack-again e = ap (ackOn heard a) e
 
-    module _ (held : EarlyObservation) (e : m .line .pending ≡ pending.Queued q t held) where
+    module _ (held : EarlyObservation) (e : m .outstanding .pending ≡ pending.Queued q t held) where
       ack-queued : onAck m a ≡ pick (sameRequest (a .request) q) (startedBy heard q (a .«started_at_ms») held) (rejectedAck heard)
       unfolding onAck ackOn
       ack-queued = ap (ackOn heard a) e
@@ -61,10 +61,10 @@ module _ (m : EscManager) (a : EscActuatorAck) where
       ack-same s = rw s at ack-queued
 
     -- the two cases of `startedBy`
-    pub ack-accepted : m .line .pending ≡ pending.Queued q t early.None → sameRequest (a .request) q ≡ true
-        → onAck m a ≡ record { manager = setLine (startedLine q (a .«started_at_ms»)) (counting requestsStarted heard); answer = outcome.Accepted }
+    pub ack-accepted : m .outstanding .pending ≡ pending.Queued q t early.None → sameRequest (a .request) q ≡ true
+        → onAck m a ≡ record { manager = setOutstanding (startedOutstanding q (a .«started_at_ms»)) (counting requestsStarted heard); answer = outcome.Accepted }
     ack-accepted e s = ack-same early.None e s
 
-    pub ack-sample : (o : EscTelemetryObservation) → m .line .pending ≡ pending.Queued q t (early.Some o) → sameRequest (a .request) q ≡ true
+    pub ack-sample : (o : EscTelemetryObservation) → m .outstanding .pending ≡ pending.Queued q t (early.Some o) → sameRequest (a .request) q ≡ true
         → onAck m a ≡ record { manager = closedBySample (counting requestsStarted heard); answer = outcome.Sample (updateOf q o) }
     ack-sample o e s = ack-same (early.Some o) e s

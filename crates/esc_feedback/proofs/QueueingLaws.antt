@@ -5,7 +5,7 @@ use Prim.Native.Nat.{ℕ}
 use Rattle.base.specs.Choice.{pick}
 use Rattle.base.specs.Due.{due}
 use Rattle.esc_feedback.specs.Turn.{turnRequest, periodDue}
-use Rattle.esc_feedback.specs.Line.{isOpen}
+use Rattle.esc_feedback.specs.Outstanding.{isOpen}
 use Rattle.esc_feedback.specs.Queueing.{requestExists, nextRequest, isWanted, granted, yes, no, markQueued}
 use Rattle.esc_feedback.specs.declared.request.EscActuatorRequest.{EscActuatorRequest}
 use Rattle.esc_feedback.specs.declared.answer.NextRequest.{NextRequest}
@@ -19,7 +19,7 @@ module _ (m : EscManager) (now : ℕ) where
   unfolding nextRequest requestExists
   none-faulted e = rw e
 
-  pub none-open : isOpen (m .line .pending) ≡ true → nextRequest m now ≡ next.None
+  pub none-open : isOpen (m .outstanding .pending) ≡ true → nextRequest m now ≡ next.None
   unfolding nextRequest requestExists
   none-open e = simp (e, and-false)
 
@@ -31,7 +31,7 @@ module _ (m : EscManager) (now : ℕ) where
   unfolding nextRequest requestExists
   none-early e = simp (e, and-false)
 
-  pub some-wanted : m .fault .faulted ≡ false → isOpen (m .line .pending) ≡ false
+  pub some-wanted : m .fault .faulted ≡ false → isOpen (m .outstanding .pending) ≡ false
       → due (m .«boot_started_ms») now (m .config .«boot_delay_ms») ≡ true
       → periodDue (m .turn .last) now (m .config .«request_period_ms») ≡ true
       → nextRequest m now ≡ next.Some (turnRequest (m .turn))

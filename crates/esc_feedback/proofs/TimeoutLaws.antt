@@ -6,16 +6,16 @@ use Rattle.base.specs.Choice.{pick}
 use Rattle.base.specs.Due.{due}
 use Rattle.esc_feedback.specs.Timeout.{noTimeout, ackTimedOut, responseTimedOut, polledOn, pollTimeout}
 use Rattle.esc_feedback.specs.declared.request.EscActuatorRequest.{EscActuatorRequest}
-use Rattle.esc_feedback.specs.declared.line.EarlyObservation.{EarlyObservation}
-use Rattle.esc_feedback.specs.declared.line.PendingRequest.the-variants as pending
+use Rattle.esc_feedback.specs.declared.outstanding.EarlyObservation.{EarlyObservation}
+use Rattle.esc_feedback.specs.declared.outstanding.PendingRequest.the-variants as pending
 use Rattle.esc_feedback.specs.declared.manager.EscManager.{EscManager}
 
 module _ (m : EscManager) (now : ℕ) where
-  pub polled-closed : m .line .pending ≡ pending.None → pollTimeout m now ≡ noTimeout m
+  pub polled-closed : m .outstanding .pending ≡ pending.None → pollTimeout m now ≡ noTimeout m
   unfolding pollTimeout polledOn
   polled-closed e = ap (polledOn m now) e
 
-  module _ (q : EscActuatorRequest) (t : ℕ) (held : EarlyObservation) (e : m .line .pending ≡ pending.Queued q t held) where
+  module _ (q : EscActuatorRequest) (t : ℕ) (held : EarlyObservation) (e : m .outstanding .pending ≡ pending.Queued q t held) where
     polled-queued : pollTimeout m now ≡ pick (due t now (m .config .«actuator_ack_timeout_ms»)) (ackTimedOut m q now) (noTimeout m)
     unfolding pollTimeout polledOn
     polled-queued = ap (polledOn m now) e
@@ -26,7 +26,7 @@ module _ (m : EscManager) (now : ℕ) where
     pub ack-due : due t now (m .config .«actuator_ack_timeout_ms») ≡ true → pollTimeout m now ≡ ackTimedOut m q now
     ack-due d = rw d at polled-queued
 
-  module _ (q : EscActuatorRequest) (t : ℕ) (e : m .line .pending ≡ pending.Started q t) where
+  module _ (q : EscActuatorRequest) (t : ℕ) (e : m .outstanding .pending ≡ pending.Started q t) where
     polled-started : pollTimeout m now ≡ pick (due t now (m .config .«telemetry_response_timeout_ms»)) (responseTimedOut m q now) (noTimeout m)
     unfolding pollTimeout polledOn
     polled-started = ap (polledOn m now) e

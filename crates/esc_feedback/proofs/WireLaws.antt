@@ -11,29 +11,29 @@ use Rattle.blheli_telemetry.specs.declared.frame.EscTelemetry.{EscTelemetry}
 use Rattle.blheli_telemetry.specs.declared.parser.Parsed.the-variants.{Sample, Nothing}
 use Rattle.esc_feedback.specs.Request.{observationOf, updateOf}
 use Rattle.esc_feedback.specs.Stats.{unsolicitedFrames}
-use Rattle.esc_feedback.specs.Line.{queuedLine}
-use Rattle.esc_feedback.specs.Manager.{setLine, setParser, counting, heardBy, closedBySample}
+use Rattle.esc_feedback.specs.Outstanding.{queuedOutstanding}
+use Rattle.esc_feedback.specs.Manager.{setOutstanding, setParser, counting, heardBy, closedBySample}
 use Rattle.esc_feedback.specs.Wire.{refreshed, framedOn, frameTaken, receivedOn, pushWire}
 use Rattle.esc_feedback.specs.declared.request.EscActuatorRequest.{EscActuatorRequest}
 use Rattle.esc_feedback.specs.declared.answer.WireUpdate.the-variants as update
-use Rattle.esc_feedback.specs.declared.line.EarlyObservation.{EarlyObservation}
-use Rattle.esc_feedback.specs.declared.line.EarlyObservation.the-variants as early
-use Rattle.esc_feedback.specs.declared.line.PendingRequest.the-variants as pending
+use Rattle.esc_feedback.specs.declared.outstanding.EarlyObservation.{EarlyObservation}
+use Rattle.esc_feedback.specs.declared.outstanding.EarlyObservation.the-variants as early
+use Rattle.esc_feedback.specs.declared.outstanding.PendingRequest.the-variants as pending
 use Rattle.esc_feedback.specs.declared.manager.EscManager.{EscManager}
 
 module _ (m : EscManager) (sample : EscTelemetry) (at : ℕ) where
-  pub framed-unsolicited : m .line .pending ≡ pending.None
+  pub framed-unsolicited : m .outstanding .pending ≡ pending.None
       → frameTaken m sample at ≡ record { manager = counting unsolicitedFrames m; answer = update.None }
   unfolding framedOn
   framed-unsolicited e = ap (framedOn m sample at) e
 
   module _ (q : EscActuatorRequest) (t : ℕ) where
-    pub framed-held : (held : EarlyObservation) → m .line .pending ≡ pending.Queued q t held
-        → frameTaken m sample at ≡ record { manager = setLine (queuedLine q t (early.Some (observationOf q sample at))) m; answer = update.None }
+    pub framed-held : (held : EarlyObservation) → m .outstanding .pending ≡ pending.Queued q t held
+        → frameTaken m sample at ≡ record { manager = setOutstanding (queuedOutstanding q t (early.Some (observationOf q sample at))) m; answer = update.None }
     unfolding framedOn
     framed-held held e = ap (framedOn m sample at) e
 
-    pub framed-delivered : m .line .pending ≡ pending.Started q t
+    pub framed-delivered : m .outstanding .pending ≡ pending.Started q t
         → frameTaken m sample at ≡ record { manager = closedBySample m; answer = update.Some (updateOf q (observationOf q sample at)) }
     unfolding framedOn
     framed-delivered e = ap (framedOn m sample at) e
@@ -59,17 +59,17 @@ module _ (m : EscManager) (byte at : ℕ) where
   unfolding pushWire receivedOn
   pushed-sample sample e = ap (receivedOn taken at) e
 
-  -- what a sample comes to, by the state of the line
+  -- what a sample comes to, by the state of the request
   module _ (sample : EscTelemetry) (g : pushOf (m .parser) byte .parsed ≡ Sample sample) where
-    pub pushed-unsolicited : m .line .pending ≡ pending.None
+    pub pushed-unsolicited : m .outstanding .pending ≡ pending.None
         → pushWire m byte at ≡ record { manager = counting unsolicitedFrames (refreshed taken); answer = update.None }
     pushed-unsolicited e = pushed-sample sample g ∙ framed-unsolicited (refreshed taken) sample at e
 
     module _ (q : EscActuatorRequest) (t : ℕ) where
-      pub pushed-held : (held : EarlyObservation) → m .line .pending ≡ pending.Queued q t held
-          → pushWire m byte at ≡ record { manager = setLine (queuedLine q t (early.Some (observationOf q sample at))) (refreshed taken); answer = update.None }
+      pub pushed-held : (held : EarlyObservation) → m .outstanding .pending ≡ pending.Queued q t held
+          → pushWire m byte at ≡ record { manager = setOutstanding (queuedOutstanding q t (early.Some (observationOf q sample at))) (refreshed taken); answer = update.None }
       pushed-held held e = pushed-sample sample g ∙ framed-held (refreshed taken) sample at q t held e
 
-      pub pushed-delivered : m .line .pending ≡ pending.Started q t
+      pub pushed-delivered : m .outstanding .pending ≡ pending.Started q t
           → pushWire m byte at ≡ record { manager = closedBySample (refreshed taken); answer = update.Some (updateOf q (observationOf q sample at)) }
       pushed-delivered e = pushed-sample sample g ∙ framed-delivered (refreshed taken) sample at q t e

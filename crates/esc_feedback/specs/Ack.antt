@@ -3,15 +3,15 @@ use Prim.Native.Nat.{ℕ}
 use Rattle.base.specs.Choice.{pick}
 use Rattle.esc_feedback.specs.Request.{sameRequest, updateOf}
 use Rattle.esc_feedback.specs.Stats.{requestsStarted, mismatchedAcks}
-use Rattle.esc_feedback.specs.Line.{startedLine}
-use Rattle.esc_feedback.specs.Manager.{setLine, counting, heardBy, closedBySample}
+use Rattle.esc_feedback.specs.Outstanding.{startedOutstanding}
+use Rattle.esc_feedback.specs.Manager.{setOutstanding, counting, heardBy, closedBySample}
 use Rattle.esc_feedback.specs.declared.request.EscActuatorRequest.{EscActuatorRequest}
 use Rattle.esc_feedback.specs.declared.request.EscActuatorAck.{EscActuatorAck}
 use Rattle.esc_feedback.specs.declared.answer.EscAckOutcome.the-variants as outcome
-use Rattle.esc_feedback.specs.declared.line.EarlyObservation.{EarlyObservation}
-use Rattle.esc_feedback.specs.declared.line.EarlyObservation.the-variants as early
-use Rattle.esc_feedback.specs.declared.line.PendingRequest.{PendingRequest}
-use Rattle.esc_feedback.specs.declared.line.PendingRequest.the-variants as pending
+use Rattle.esc_feedback.specs.declared.outstanding.EarlyObservation.{EarlyObservation}
+use Rattle.esc_feedback.specs.declared.outstanding.EarlyObservation.the-variants as early
+use Rattle.esc_feedback.specs.declared.outstanding.PendingRequest.{PendingRequest}
+use Rattle.esc_feedback.specs.declared.outstanding.PendingRequest.the-variants as pending
 use Rattle.esc_feedback.specs.declared.manager.EscManager.{EscManager}
 use Rattle.esc_feedback.specs.declared.manager.ack.Acked.{Acked}
 
@@ -22,7 +22,7 @@ rejectedAck m = record { manager = counting mismatchedAcks m; answer = outcome.R
 -- the queued request was started: a frame that was held is its sample, else its frame is waited for
 abbrev pub startedBy : EscManager → EscActuatorRequest → ℕ → EarlyObservation → Acked
 startedBy m q startedAt early.None =
-    record { manager = setLine (startedLine q startedAt) (counting requestsStarted m); answer = outcome.Accepted }
+    record { manager = setOutstanding (startedOutstanding q startedAt) (counting requestsStarted m); answer = outcome.Accepted }
 startedBy m q startedAt (early.Some o) =
     record { manager = closedBySample (counting requestsStarted m); answer = outcome.Sample (updateOf q o) }
 
@@ -34,4 +34,4 @@ ackOn m a (pending.Queued q t held) = pick (sameRequest (a .request) q) (started
 
 -- while faulted, a 03 moves the quiet start by its started time
 unfoldable pub onAck : EscManager → EscActuatorAck → Acked
-onAck m a = ackOn (heardBy m (a .«started_at_ms»)) a (m .line .pending)
+onAck m a = ackOn (heardBy m (a .«started_at_ms»)) a (m .outstanding .pending)

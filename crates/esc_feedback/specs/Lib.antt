@@ -4,7 +4,7 @@ pub mod Config
 pub mod Stats
 pub mod Turn
 pub mod Fault
-pub mod Line
+pub mod Outstanding
 pub mod Manager
 pub mod Queueing
 pub mod Ack

@@ -6,12 +6,12 @@ use Rattle.base.specs.Due.{due}
 use Rattle.esc_feedback.specs.Request.{sameRequest}
 use Rattle.esc_feedback.specs.Stats.{requestsQueued}
 use Rattle.esc_feedback.specs.Turn.{turnRequest, periodDue, turnAfter}
-use Rattle.esc_feedback.specs.Line.{isOpen, queuedLine}
-use Rattle.esc_feedback.specs.Manager.{setTurn, setLine, counting}
+use Rattle.esc_feedback.specs.Outstanding.{isOpen, queuedOutstanding}
+use Rattle.esc_feedback.specs.Manager.{setTurn, setOutstanding, counting}
 use Rattle.esc_feedback.specs.declared.request.EscActuatorRequest.{EscActuatorRequest}
 use Rattle.esc_feedback.specs.declared.answer.NextRequest.{NextRequest}
 use Rattle.esc_feedback.specs.declared.answer.NextRequest.the-variants as next
-use Rattle.esc_feedback.specs.declared.line.EarlyObservation.the-variants as early
+use Rattle.esc_feedback.specs.declared.outstanding.EarlyObservation.the-variants as early
 use Rattle.esc_feedback.specs.declared.manager.EscManager.{EscManager}
 use Rattle.esc_feedback.specs.declared.manager.queueing.Marked.{Marked}
 
@@ -19,7 +19,7 @@ use Rattle.esc_feedback.specs.declared.manager.queueing.Marked.{Marked}
 unfoldable pub requestExists : EscManager → ℕ → Bool
 requestExists m now =
     not (m .fault .faulted)
-    && (not (isOpen (m .line .pending))
+    && (not (isOpen (m .outstanding .pending))
     && (due (m .«boot_started_ms») now (m .config .«boot_delay_ms»)
     && periodDue (m .turn .last) now (m .config .«request_period_ms»)))
 
@@ -32,7 +32,7 @@ isWanted q (next.Some wanted) = sameRequest q wanted
 
 -- a yes to 02 opens the request, moves the turn and is counted
 abbrev pub granted : EscManager → EscActuatorRequest → ℕ → EscManager
-granted m q now = counting requestsQueued (setTurn (turnAfter (m .turn) now) (setLine (queuedLine q now early.None) m))
+granted m q now = counting requestsQueued (setTurn (turnAfter (m .turn) now) (setOutstanding (queuedOutstanding q now early.None) m))
 
 abbrev pub yes : EscManager → Marked
 yes m = record { manager = m; answer = true }

@@ -3,13 +3,13 @@ use Prim.Native.Nat.{ℕ}
 use Rattle.base.specs.Choice.{pick}
 use Rattle.base.specs.Due.{due}
 use Rattle.esc_feedback.specs.Stats.{ackTimeouts, responseTimeouts}
-use Rattle.esc_feedback.specs.Line.{closedLine}
+use Rattle.esc_feedback.specs.Outstanding.{noneOutstanding}
 use Rattle.esc_feedback.specs.Fault.{timedOutAt}
-use Rattle.esc_feedback.specs.Manager.{setLine, setFault, counting}
+use Rattle.esc_feedback.specs.Manager.{setOutstanding, setFault, counting}
 use Rattle.esc_feedback.specs.declared.request.EscActuatorRequest.{EscActuatorRequest}
 use Rattle.esc_feedback.specs.declared.answer.EscManagerTimeout.the-variants as timeout
-use Rattle.esc_feedback.specs.declared.line.PendingRequest.{PendingRequest}
-use Rattle.esc_feedback.specs.declared.line.PendingRequest.the-variants as pending
+use Rattle.esc_feedback.specs.declared.outstanding.PendingRequest.{PendingRequest}
+use Rattle.esc_feedback.specs.declared.outstanding.PendingRequest.the-variants as pending
 use Rattle.esc_feedback.specs.declared.manager.EscManager.{EscManager}
 use Rattle.esc_feedback.specs.declared.manager.timeout.Polled.{Polled}
 
@@ -18,7 +18,7 @@ noTimeout m = record { manager = m; answer = timeout.None }
 
 -- a timeout closes the request, drops a held frame, sets faulted and starts the quiet time at its T
 abbrev pub timedOut : EscManager → ℕ → EscManager
-timedOut m now = setFault (timedOutAt (m .fault) now) (setLine closedLine m)
+timedOut m now = setFault (timedOutAt (m .fault) now) (setOutstanding noneOutstanding m)
 
 abbrev pub ackTimedOut : EscManager → EscActuatorRequest → ℕ → Polled
 ackTimedOut m q now = record { manager = counting ackTimeouts (timedOut m now); answer = timeout.ActuatorAck q }
@@ -34,4 +34,4 @@ polledOn m now (pending.Queued q t held) = pick (due t now (m .config .«actuato
 polledOn m now (pending.Started q t) = pick (due t now (m .config .«telemetry_response_timeout_ms»)) (responseTimedOut m q now) (noTimeout m)
 
 unfoldable pub pollTimeout : EscManager → ℕ → Polled
-pollTimeout m now = polledOn m now (m .line .pending)
+pollTimeout m now = polledOn m now (m .outstanding .pending)

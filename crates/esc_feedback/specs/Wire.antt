@@ -6,12 +6,12 @@ use Rattle.blheli_telemetry.specs.declared.parser.Parsed.{Parsed}
 use Rattle.blheli_telemetry.specs.declared.parser.Parsed.the-variants.{Sample, Nothing}
 use Rattle.esc_feedback.specs.Request.{observationOf, updateOf}
 use Rattle.esc_feedback.specs.Stats.{unsolicitedFrames, wireRenewed}
-use Rattle.esc_feedback.specs.Line.{queuedLine}
-use Rattle.esc_feedback.specs.Manager.{setLine, setParser, setStats, counting, heardBy, closedBySample}
+use Rattle.esc_feedback.specs.Outstanding.{queuedOutstanding}
+use Rattle.esc_feedback.specs.Manager.{setOutstanding, setParser, setStats, counting, heardBy, closedBySample}
 use Rattle.esc_feedback.specs.declared.answer.WireUpdate.the-variants as update
-use Rattle.esc_feedback.specs.declared.line.EarlyObservation.the-variants as early
-use Rattle.esc_feedback.specs.declared.line.PendingRequest.{PendingRequest}
-use Rattle.esc_feedback.specs.declared.line.PendingRequest.the-variants as pending
+use Rattle.esc_feedback.specs.declared.outstanding.EarlyObservation.the-variants as early
+use Rattle.esc_feedback.specs.declared.outstanding.PendingRequest.{PendingRequest}
+use Rattle.esc_feedback.specs.declared.outstanding.PendingRequest.the-variants as pending
 use Rattle.esc_feedback.specs.declared.manager.EscManager.{EscManager}
 use Rattle.esc_feedback.specs.declared.manager.wire.Received.{Received}
 
@@ -28,12 +28,12 @@ refreshed m = setStats (wireRenewed (m .stats) (m .parser .stats)) m
 unfoldable pub framedOn : EscManager → EscTelemetry → ℕ → PendingRequest → Received
 framedOn m sample at pending.None = record { manager = counting unsolicitedFrames m; answer = update.None }
 framedOn m sample at (pending.Queued q t e) =
-    record { manager = setLine (queuedLine q t (early.Some (observationOf q sample at))) m; answer = update.None }
+    record { manager = setOutstanding (queuedOutstanding q t (early.Some (observationOf q sample at))) m; answer = update.None }
 framedOn m sample at (pending.Started q t) =
     record { manager = closedBySample m; answer = update.Some (updateOf q (observationOf q sample at)) }
 
 abbrev pub frameTaken : EscManager → EscTelemetry → ℕ → Received
-frameTaken m sample at = framedOn m sample at (m .line .pending)
+frameTaken m sample at = framedOn m sample at (m .outstanding .pending)
 
 -- only when the parser gives a sample is the copy of its counts renewed
 unfoldable pub receivedOn : EscManager → ℕ → Parsed → Received

@@ -3,9 +3,9 @@
 mod answer;
 mod config;
 mod fault;
-mod line;
 mod manager;
 mod output;
+mod outstanding;
 mod request;
 mod samples;
 mod stats;

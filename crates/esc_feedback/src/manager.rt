@@ -21,7 +21,7 @@ ghost use Rattle.esc_feedback.specs.Manager.{newManager, closedBySample,
 use crate::answer::BackAfterRetries;
 use crate::config::EscManagerConfig;
 use crate::fault::Fault;
-use crate::line::Line;
+use crate::outstanding::Outstanding;
 use crate::stats::EscManagerStats;
 use crate::turn::Turn;
 use blheli_telemetry::StreamParser;
@@ -37,7 +37,7 @@ pub struct EscManager {
     config: EscManagerConfig,
     boot_started_ms: u64,
     turn: Turn,
-    line: Line,
+    outstanding: Outstanding,
     pub fault: Fault,
     back: Back,
     pub parser: StreamParser,
@@ -55,7 +55,7 @@ impl EscManager {
         ensures { λ r. ⌜ r ≡ newManager config «boot_started_ms» ⌝ }
     {
         let turn = Turn::new();
-        let line = Line::closed();
+        let outstanding = Outstanding::none();
         let fault = Fault::new();
         let back = Back {
             note: BackAfterRetries::None,
@@ -66,7 +66,7 @@ impl EscManager {
             config,
             boot_started_ms,
             turn,
-            line,
+            outstanding,
             fault,
             back,
             parser,
@@ -115,8 +115,8 @@ impl EscManager {
         ensures { λ r. ⌜ r ≡ closedBySample self ⌝ }
     {
         let mut m = self;
-        let line = Line::closed();
-        m.line = line;
+        let outstanding = Outstanding::none();
+        m.outstanding = outstanding;
         let retries = m.fault.retries_without_frame;
         if retries == 0 {
             return m;

@@ -2,10 +2,10 @@
 ghost use mathlib.Core.Path.{_≡_};
 ghost use Rattle.esc_feedback.specs.Ack.{onAck, rejectedAck, startedBy};
 use crate::answer::EscAckOutcome;
-use crate::line::EarlyObservation;
-use crate::line::Line;
-use crate::line::PendingRequest;
 use crate::manager::EscManager;
+use crate::outstanding::EarlyObservation;
+use crate::outstanding::Outstanding;
+use crate::outstanding::PendingRequest;
 use crate::request::EscActuatorAck;
 use crate::request::EscActuatorRequest;
 use crate::request::EscTelemetryUpdate;
@@ -26,8 +26,8 @@ impl EscManager {
         let fault = m.fault;
         let heard = fault.heard(ack.started_at_ms);
         m.fault = heard;
-        let line = m.line;
-        let pending = line.pending;
+        let outstanding = m.outstanding;
+        let pending = outstanding.pending;
         let PendingRequest::Queued {
             request,
             queued_at_ms: _,
@@ -69,8 +69,8 @@ impl EscManager {
         m.stats.requests_started = requests_started;
         match early {
             EarlyObservation::None => {
-                let line = Line::started(request, started_at_ms);
-                m.line = line;
+                let outstanding = Outstanding::started(request, started_at_ms);
+                m.outstanding = outstanding;
                 Acked {
                     manager: m,
                     answer: EscAckOutcome::Accepted,

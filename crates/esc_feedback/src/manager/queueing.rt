@@ -2,9 +2,9 @@
 ghost use mathlib.Core.Path.{_≡_};
 ghost use Rattle.esc_feedback.specs.Queueing.{nextRequest, markQueued, granted};
 use crate::answer::NextRequest;
-use crate::line::EarlyObservation;
-use crate::line::Line;
 use crate::manager::EscManager;
+use crate::outstanding::EarlyObservation;
+use crate::outstanding::Outstanding;
 use crate::request::EscActuatorRequest;
 use crate::stats::one_more;
 use base::elapsed_at_least;
@@ -23,8 +23,8 @@ impl EscManager {
         if self.fault.faulted {
             return NextRequest::None;
         }
-        let line = self.line;
-        if line.is_open() {
+        let outstanding = self.outstanding;
+        if outstanding.is_open() {
             return NextRequest::None;
         }
         if !elapsed_at_least(self.boot_started_ms, now_ms, self.config.boot_delay_ms) {
@@ -63,8 +63,8 @@ impl EscManager {
         ensures { λ r. ⌜ r ≡ granted self request «now_ms» ⌝ }
     {
         let mut m = self;
-        let line = Line::queued(request, now_ms, EarlyObservation::None);
-        m.line = line;
+        let outstanding = Outstanding::queued(request, now_ms, EarlyObservation::None);
+        m.outstanding = outstanding;
         let turn = m.turn;
         let next = turn.after(now_ms);
         m.turn = next;

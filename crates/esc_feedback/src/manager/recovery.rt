@@ -1,8 +1,8 @@
 // Recovery: telemetry resumes after a timeout.
 ghost use mathlib.Core.Path.{_≡_};
 ghost use Rattle.esc_feedback.specs.Recovery.{tryRecover, recoveredManager};
-use crate::line::Line;
 use crate::manager::EscManager;
+use crate::outstanding::Outstanding;
 use crate::stats::one_more;
 
 pub struct Recovered {
@@ -11,7 +11,7 @@ pub struct Recovered {
 }
 
 impl EscManager {
-    // Yes once the craft is disarmed and the line and the acknowledgements have been silent for long
+    // Yes once the craft is disarmed and the wire and the acknowledgements have been silent for long
     // enough. The caller then drops every stored sample (`EscSamples::new`), so that arming needs
     // fresh eRPM from each motor.
     pub fn try_recover(self, now_ms: u64, armed: bool) -> Recovered
@@ -34,8 +34,8 @@ impl EscManager {
         ensures { λ r. ⌜ r ≡ recoveredManager self ⌝ }
     {
         let mut m = self.record_wire_discontinuity();
-        let line = Line::closed();
-        m.line = line;
+        let outstanding = Outstanding::none();
+        m.outstanding = outstanding;
         let fault = m.fault;
         let retried = fault.retried();
         m.fault = retried;

@@ -2,9 +2,9 @@
 ghost use mathlib.Core.Path.{_≡_};
 ghost use Rattle.esc_feedback.specs.Timeout.{pollTimeout, timedOut};
 use crate::answer::EscManagerTimeout;
-use crate::line::Line;
-use crate::line::PendingRequest;
 use crate::manager::EscManager;
+use crate::outstanding::Outstanding;
+use crate::outstanding::PendingRequest;
 use crate::stats::one_more;
 use base::elapsed_at_least;
 
@@ -18,8 +18,8 @@ impl EscManager {
     pub fn poll_timeout(self, now_ms: u64) -> Polled
         ensures { λ r. ⌜ r ≡ pollTimeout self «now_ms» ⌝ }
     {
-        let line = self.line;
-        let pending = line.pending;
+        let outstanding = self.outstanding;
+        let pending = outstanding.pending;
         match pending {
             PendingRequest::None => Polled {
                 manager: self,
@@ -73,8 +73,8 @@ impl EscManager {
         ensures { λ r. ⌜ r ≡ timedOut self «now_ms» ⌝ }
     {
         let mut m = self;
-        let line = Line::closed();
-        m.line = line;
+        let outstanding = Outstanding::none();
+        m.outstanding = outstanding;
         let fault = m.fault;
         let faulted = fault.timed_out(now_ms);
         m.fault = faulted;

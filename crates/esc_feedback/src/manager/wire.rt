@@ -2,10 +2,10 @@
 ghost use mathlib.Core.Path.{_≡_};
 ghost use Rattle.esc_feedback.specs.Wire.{pushWire, frameTaken, cutWire, refreshed};
 use crate::answer::WireUpdate;
-use crate::line::EarlyObservation;
-use crate::line::Line;
-use crate::line::PendingRequest;
 use crate::manager::EscManager;
+use crate::outstanding::EarlyObservation;
+use crate::outstanding::Outstanding;
+use crate::outstanding::PendingRequest;
 use crate::stats::one_more;
 use blheli_telemetry::EscTelemetry;
 use blheli_telemetry::Parsed;
@@ -45,8 +45,8 @@ impl EscManager {
         ensures { λ r. ⌜ r ≡ frameTaken self sample «observed_at_ms» ⌝ }
     {
         let mut m = self;
-        let line = m.line;
-        let pending = line.pending;
+        let outstanding = m.outstanding;
+        let pending = outstanding.pending;
         match pending {
             PendingRequest::None => {
                 let unsolicited_frames = one_more(m.stats.unsolicited_frames);
@@ -63,8 +63,12 @@ impl EscManager {
             } => {
                 let update = request.answered(sample, observed_at_ms);
                 let observation = update.observation;
-                let line = Line::queued(request, queued_at_ms, EarlyObservation::Some(observation));
-                m.line = line;
+                let outstanding = Outstanding::queued(
+                    request,
+                    queued_at_ms,
+                    EarlyObservation::Some(observation),
+                );
+                m.outstanding = outstanding;
                 Received {
                     manager: m,
                     answer: WireUpdate::None,

@@ -1,4 +1,4 @@
--- One law for each state of the line.
+-- One law for each state of the request.
 use mathlib.Core.Path.{sym}
 use Rattle.esc_feedback.proofs.WireLaws.{framed-unsolicited, framed-held, framed-delivered}
 use borrow.Author.Needs.{needs}

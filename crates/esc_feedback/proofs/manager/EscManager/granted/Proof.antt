@@ -1,4 +1,4 @@
--- Line, turn and count, by the callees.
+-- Outstanding, turn and count, by the callees.
 use borrow.Author.Needs.{needs}
 use Rattle.esc_feedback.proofs.manager.EscManager.granted.Statement.{statement}
 use Rattle.esc_feedback.proofs.manager.EscManager.granted.Tie as tie

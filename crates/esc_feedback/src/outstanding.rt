@@ -1,6 +1,6 @@
 // The open request: at most one, since a frame does not say which output sent it.
 ghost use mathlib.Core.Path.{_≡_};
-ghost use Rattle.esc_feedback.specs.Line.{closedLine, queuedLine, startedLine, isOpen};
+ghost use Rattle.esc_feedback.specs.Outstanding.{noneOutstanding, queuedOutstanding, startedOutstanding, isOpen};
 use crate::request::EscActuatorRequest;
 use crate::request::EscTelemetryObservation;
 
@@ -26,14 +26,15 @@ pub enum PendingRequest {
     },
 }
 
-pub struct Line {
+// The enum as a field: with a struct around it a store to the manager is a store to one field.
+pub struct Outstanding {
     pub pending: PendingRequest,
 }
 
-impl Line {
+impl Outstanding {
     // No request is open.
-    pub fn closed() -> Self
-        ensures { λ r. ⌜ r ≡ closedLine ⌝ }
+    pub fn none() -> Self
+        ensures { λ r. ⌜ r ≡ noneOutstanding ⌝ }
     {
         Self {
             pending: PendingRequest::None,
@@ -42,7 +43,7 @@ impl Line {
 
     // A request that was queued, and the frame that came before its acknowledgement.
     pub fn queued(request: EscActuatorRequest, queued_at_ms: u64, early: EarlyObservation) -> Self
-        ensures { λ r. ⌜ r ≡ queuedLine request «queued_at_ms» early ⌝ }
+        ensures { λ r. ⌜ r ≡ queuedOutstanding request «queued_at_ms» early ⌝ }
     {
         Self {
             pending: PendingRequest::Queued {
@@ -55,7 +56,7 @@ impl Line {
 
     // A request that was acknowledged: the next frame answers it.
     pub fn started(request: EscActuatorRequest, started_at_ms: u64) -> Self
-        ensures { λ r. ⌜ r ≡ startedLine request «started_at_ms» ⌝ }
+        ensures { λ r. ⌜ r ≡ startedOutstanding request «started_at_ms» ⌝ }
     {
         Self {
             pending: PendingRequest::Started {
