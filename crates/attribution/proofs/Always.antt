@@ -4,7 +4,7 @@ use mathlib.Core.Bool.{true}
 use mathlib.Core.List.{_∷_}
 use Rattle.attribution.specs.Marks.{LogEntry, Log}
 use Rattle.attribution.specs.Wiring.{EntryTest, always}
-use Rattle.attribution.proofs.Both.{and-left, and-right}
+use Rattle.base.proofs.Both.{and-left, and-right}
 
 module _ (t : EntryTest) (l : Log) (e : LogEntry) (x : always t (e ∷ l) ≡ true) where
   pub now : t l e ≡ true

@@ -1,7 +1,6 @@
 pub mod Unseen
 pub mod ByRule
 pub mod LawfulLog
-pub mod Both
 pub mod Always
 pub mod Steps
 pub mod Along

@@ -16,7 +16,7 @@ use Rattle.attribution.specs.Marks.{Marked, Log}
 use Rattle.attribution.specs.Origin.{requests, Arrival}
 use Rattle.attribution.specs.Since.{takenSince, each, all}
 use Rattle.attribution.specs.NeverAnotherArm.{noOther, NoOtherArm}
-use Rattle.attribution.proofs.Both.{and-left, and-right}
+use Rattle.base.proofs.Both.{and-left, and-right}
 use Rattle.attribution.proofs.Delivery.{deliveredIn}
 use Rattle.attribution.proofs.Lists.{ruleLog}
 use Rattle.attribution.proofs.Newest.{Refuted, refuted-by}

@@ -24,7 +24,7 @@ use Rattle.attribution.specs.Wiring.{ofOrigin}
 use Rattle.attribution.specs.Clock.{latestT, queuedAt}
 use Rattle.attribution.specs.Pace.{askedAndDoneInTime, ticks, oneClock, spacious, settings, aCut, Pace}
 use Rattle.attribution.specs.NeverAnotherArm.{noOther}
-use Rattle.attribution.proofs.Both.{and-left, and-right}
+use Rattle.base.proofs.Both.{and-left, and-right}
 use Rattle.attribution.proofs.Always.{now, before}
 use Rattle.attribution.proofs.Clock.{time-grows, time-now}
 use Rattle.attribution.proofs.LawfulLog.{Lawful}

@@ -21,13 +21,15 @@ use Rattle.booking.specs.Turns.{turn, lastQueued, existing}
 use Rattle.booking.specs.IdleRule.{check, verdict, streak, judged}
 use Rattle.booking.specs.Rule.{ruleFor}
 use Rattle.booking.proofs.Session.{roomy}
-use Rattle.attribution.specs.Marks.{Marked, Log, logOf, logAfter, sinceIn}
+use Rattle.attribution.specs.Marks.{Marked, callsOf, Log, logOf, logAfter, sinceIn}
 use Rattle.attribution.specs.Origin.{requests}
 use Rattle.attribution.specs.Since.{takenSince}
 use Rattle.attribution.specs.Wiring.{always}
 use Rattle.attribution.specs.Clock.{latestT, queuedAt}
 use Rattle.attribution.specs.Pace.{spacious, Pace}
-use Rattle.attribution.specs.NeverAnotherArm.{NoOtherArm, ofBytes}
+use Rattle.base.specs.Bytes.{areBytes}
+use Rattle.booking.specs.FirstNine.{ofBytes}
+use Rattle.attribution.specs.NeverAnotherArm.{NoOtherArm}
 use Rattle.attribution.proofs.ByRule.{traceMarked}
 use Rattle.attribution.proofs.Lists.{unmarked, openingPaced, queue, acknowledge, poll, cut, recover, ask, zeros, booked, arms, Name, clock, cutting, askedInTime, spacing, paceFails, ruleLog, by-rule}
 use Rattle.attribution.proofs.Newest.{Newest, newest-by, Refuted}
@@ -35,12 +37,12 @@ use Rattle.attribution.proofs.OtherArm.{other-arm}
 use Rattle.attribution.proofs.NeverAnotherArm.{never-another-arm}
 
 pub record PaceRow (ms : List Marked) (bytes : Bool) (fails : List Name) (to : List ℕ) (from : List (Option ℕ)) : Type 0 where
-  pub spelt : ofBytes ms ≡ bytes
+  pub spelt : ofBytes (callsOf ms) ≡ bytes
   pub failing : paceFails 20 (logAfter ms) ≡ fails
   pub lanes : booked (logAfter ms) ≡ to
   pub sent : arms (logAfter ms) ≡ from
 
-row : (ms : List Marked) → PaceRow ms (ofBytes ms) (paceFails 20 (ruleLog ms)) (booked (ruleLog ms)) (arms (ruleLog ms))
+row : (ms : List Marked) → PaceRow ms (ofBytes (callsOf ms)) (paceFails 20 (ruleLog ms)) (booked (ruleLog ms)) (arms (ruleLog ms))
 row ms =
     record {
       spelt = refl;
@@ -135,7 +137,7 @@ pub record PaceLists : Type 0 where
   pub bytes-wrong : Refuted NoOtherArm noBytes
 
 pub pace-lists : PaceLists
-unfolding numberAt bytesOf crcBit crcBits crcByte crcFrom crcOf telemetryOf payloadOf due recordOf readRecord requestBytes sampleBytes deliveredBytes failureBytes idleBytes nextBytes ackBytes wireBytes timeoutBytes bodyBytes answerBytes since wire latest frameAt openRequest startedAt latestFrame newlyStarted startedRequest faulted quietSince retries timeoutFor recovers note turn lastQueued existing check verdict streak judged ruleFor traceMarked logOf sinceIn requests takenSince always latestT queuedAt
+unfolding numberAt bytesOf crcBit crcBits crcByte crcFrom crcOf telemetryOf payloadOf due recordOf readRecord requestBytes sampleBytes deliveredBytes failureBytes idleBytes nextBytes ackBytes wireBytes timeoutBytes bodyBytes answerBytes since wire latest frameAt openRequest startedAt latestFrame newlyStarted startedRequest faulted quietSince retries timeoutFor recovers note turn lastQueued existing check verdict streak judged ruleFor traceMarked logOf sinceIn requests takenSince always latestT queuedAt areBytes ofBytes
 pace-lists =
     record {
       flight-comes = row noisyFlight;

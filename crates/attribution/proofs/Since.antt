@@ -8,7 +8,7 @@ use Rattle.booking.specs.History.{Timed, Byte}
 use Rattle.attribution.specs.Marks.{LogEntry, Log}
 use Rattle.attribution.specs.Origin.{Arrival, arrivals}
 use Rattle.attribution.specs.Since.{takenSince, each}
-use Rattle.attribution.proofs.Both.{and-left, and-right}
+use Rattle.base.proofs.Both.{and-left, and-right}
 
 module _ (l : Log) (e : LogEntry) where
   pub since-same : e .seen .requests .granted ≡ none → e .seen .wire .byte ≡ none → takenSince (e ∷ l) ≡ takenSince l

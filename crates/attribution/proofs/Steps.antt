@@ -21,7 +21,7 @@ use Rattle.booking.specs.Booking.{bookedTo, openRequest, latestFrame, newlyStar
 use Rattle.booking.specs.Faults.{faulted, quietSince, retries, timeoutFor, recovers}
 use Rattle.booking.specs.Turns.{lastQueued, dueSince, existing, names}
 use Rattle.booking.specs.Rule.{ackAnswer, wireAnswerOf, answerTo}
-use Rattle.attribution.proofs.Both.{and-left, and-right}
+use Rattle.base.proofs.Both.{and-left, and-right}
 
 -- all of an entry that attribution reads, but a cut and the time
 pub record Shows (e : Seen) (g : Option Timed) (b : Option Byte) (d : Option EscTelemetryUpdate) (t : Option EscManagerTimeout) (r : Bool) : Type 0 where

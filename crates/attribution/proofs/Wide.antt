@@ -18,21 +18,13 @@ use Rattle.esc_records.specs.declared.record.Record.the-variants as kind
 use Rattle.esc_records.specs.declared.answer.Answer.{Answer}
 use Rattle.esc_unit.specs.declared.unit.Unit.{Unit}
 use Rattle.booking.specs.History.{Seen, seen}
-use Rattle.attribution.specs.Marks.{Marked, MarkedHistory, feedMarked, runMarked, LogEntry, Log, logged, logOf, logAfter}
+use Rattle.attribution.specs.Marks.{Marked, callsOf, MarkedHistory, feedMarked, runMarked, LogEntry, Log, logged, logOf, logAfter}
 use Rattle.attribution.specs.Clock.{latestT}
-use Rattle.attribution.specs.NeverAnotherArm.{areBytes, ofBytes}
-use Rattle.attribution.proofs.Both.{and-left, and-right}
+use Rattle.base.specs.Bytes.{areBytes}
+use Rattle.base.proofs.BytesLaws.{bytes-below, number-fits}
+use Rattle.booking.specs.FirstNine.{ofBytes}
+use Rattle.base.proofs.Both.{and-left, and-right}
 use Rattle.attribution.proofs.Clock.{time-grows}
-
-bytes-below : (s : List ℕ) → areBytes s ≡ true → (i : ℕ) → getD s i 0 < 256
-bytes-below [] e i = omega arith
-bytes-below (b ∷ s) e zero = ltb-true b 256 (and-left (ltb b 256) _ e)
-bytes-below (b ∷ s) e (suc i) = bytes-below s (and-right (ltb b 256) _ e) i
-
-number-fits : (k : ℕ) (s : List ℕ) (at : ℕ) → ((i : ℕ) → getD s i 0 < 256) → numberAt k s at < 256 ^ k
-unfolding numberAt
-number-fits zero s at byte = omega arith
-number-fits (suc k) s at byte = omega (arith, number-fits k s at byte, byte (at + k))
 
 -- the T of a record, whatever its answer
 module _ (a : Answer) where
@@ -83,7 +75,7 @@ module _ (kinds : Seen → Bool) where
       go true false lane flag = w
       go false long lane flag = w
 
-  wide-fed : (ms : List Marked) (u : Unit) (h : MarkedHistory) → ofBytes ms ≡ true → Wide (logOf h) → Wide (logOf (feedMarked u h ms))
+  wide-fed : (ms : List Marked) (u : Unit) (h : MarkedHistory) → ofBytes (callsOf ms) ≡ true → Wide (logOf h) → Wide (logOf (feedMarked u h ms))
   unfolding feedMarked logOf
   wide-fed [] u h b w = w
   wide-fed (m ∷ ms) u h b w =
@@ -94,6 +86,6 @@ module _ (kinds : Seen → Bool) where
   wide-before [] l w = w
   wide-before (e ∷ later) l w = wide-before later l (omega (arith, time-grows kinds (later ++ l) e))
 
-  pub wide-at : (ms : List Marked) (later l : Log) → ofBytes ms ≡ true → logAfter ms ≡ later ++ l → latestT kinds l < 2 ^ 64
+  pub wide-at : (ms : List Marked) (later l : Log) → ofBytes (callsOf ms) ≡ true → logAfter ms ≡ later ++ l → latestT kinds l < 2 ^ 64
   unfolding runMarked logOf latestT
   wide-at ms later l b x = wide-before later l (subst Wide x (wide-fed ms neverOpened [] b (omega arith)))

@@ -1,15 +1,16 @@
 -- The claim that noise does not touch: no byte of another arm is in a reading.
 use Prim.Native.Nat.{ℕ}
 use mathlib.Core.Path.{_≡_}
-use mathlib.Core.Bool.{Bool, true, _&&_}
-use mathlib.Core.List.{List, [], _∷_}
+use mathlib.Core.Bool.{Bool, true}
+use mathlib.Core.List.{List, _∷_}
 use mathlib.Core.Option.{Option}
-use lib.Dec.{eqb, ltb}
+use lib.Dec.{eqb}
 use lib.ListN.{length}
 use Rattle.blheli_telemetry.specs.Frame.{telemetryOf}
 use Rattle.esc_feedback.specs.declared.request.EscActuatorRequest.{EscActuatorRequest}
 use Rattle.esc_feedback.specs.declared.request.EscTelemetryUpdate.{EscTelemetryUpdate}
-use Rattle.attribution.specs.Marks.{Marked, Log}
+use Rattle.booking.specs.FirstNine.{ofBytes}
+use Rattle.attribution.specs.Marks.{Marked, callsOf, Log}
 use Rattle.attribution.specs.Origin.{requests}
 use Rattle.attribution.specs.Since.{takenSince, valuesOf, each, Ten, all, Run}
 use Rattle.attribution.specs.Wiring.{ofOrigin}
@@ -31,15 +32,6 @@ pub record NoOtherArm (l : Log) (u : EscTelemetryUpdate) : Type 0 where
   pub says : u .observation .sample ≡ telemetryOf (valuesOf (all ten))
   pub when : ten .check .byte .at ≡ u .observation .«observed_at_ms»
 
-abbrev pub areBytes : List ℕ → Bool
-areBytes [] = true
-areBytes (b ∷ bs) = ltb b 256 && areBytes bs
-
--- each record is bytes, each below 256: so a T is less than 2^64
-abbrev pub ofBytes : List Marked → Bool
-ofBytes [] = true
-ofBytes (m ∷ ms) = areBytes (m .call .bytes) && ofBytes ms
-
--- for every P and every list of calls whose records are bytes
+-- for every P and every list of calls whose records are bytes, each below 256: so a T is less than 2^64
 abbrev pub NeverAnotherArm : Type 0
-NeverAnotherArm = (P : ℕ) (ms : List Marked) → ofBytes ms ≡ true → OfEachSample (Pace P) NoOtherArm ms
+NeverAnotherArm = (P : ℕ) (ms : List Marked) → ofBytes (callsOf ms) ≡ true → OfEachSample (Pace P) NoOtherArm ms

@@ -1,6 +1,8 @@
 pub mod ByCases
+pub mod Both
 pub mod Table
 pub mod BigEndianLaws
+pub mod BytesLaws
 pub mod NumberLaws
 pub mod PutLaws
 pub mod HandLaws

@@ -1,6 +1,7 @@
 pub mod Choice
 pub mod Reply
 pub mod Maybe
+pub mod Bytes
 pub mod BigEndian
 pub mod Put
 pub mod Handed

@@ -5,6 +5,7 @@ use mathlib.Core.List.{List, [], _∷_, _++_, map}
 use mathlib.Core.Option.{some}
 use Prim.Native.Nat.{ℕ}
 use lib.ListN.{take, drop, replicate}
+use Rattle.base.specs.Bytes.{areBytes}
 use Rattle.base.specs.BigEndian.{numberAt, bytesOf}
 use Rattle.blheli_telemetry.specs.Crc.{crcBit, crcBits, crcByte, crcFrom, crcOf}
 use Rattle.blheli_telemetry.specs.Frame.{telemetryOf, payloadOf}
@@ -21,7 +22,7 @@ use Rattle.booking.specs.Faults.{faulted, quietSince, retries, timeoutFo
 use Rattle.booking.specs.Turns.{turn, lastQueued, existing}
 use Rattle.booking.specs.IdleRule.{check, verdict, streak, judged}
 use Rattle.booking.specs.Rule.{ruleFor, traceOf}
-use Rattle.booking.specs.FirstNine.{areBytes, ofBytes, frameFor, sampleHolds}
+use Rattle.booking.specs.FirstNine.{ofBytes, frameFor, sampleHolds}
 use Rattle.booking.proofs.Session.{roomy}
 use Rattle.booking.proofs.Live.{open′, queue, acknowledge, byte, frame, pastBy, lastReply}
 

@@ -7,6 +7,7 @@ use Prim.Native.Nat.{ℕ}
 use lib.Dec.{eqb}
 use borrow.Author.Tests.{eqb-true}
 use Rattle.base.specs.Choice.{pick}
+use Rattle.base.proofs.Both.{and-left, and-right}
 use Rattle.blheli_telemetry.specs.Parser.{pushOf, resetOf}
 use Rattle.blheli_telemetry.specs.declared.parser.StreamParser.{StreamParser}
 use Rattle.base.specs.Due.{due}
@@ -56,14 +57,6 @@ updateAnswer (some u) = update.Some u
 booked-none : (q : Option EscActuatorRequest) → bookedTo q none ≡ none
 booked-none none = refl
 booked-none (some q) = refl
-
-pub and-left : (a b : Bool) → (a && b) ≡ true → a ≡ true
-and-left true b e = refl
-and-left false b e = e
-
-pub and-right : (a b : Bool) → (a && b) ≡ true → b ≡ true
-and-right true b e = e
-and-right false b e = absurd (false≢true e)
 
 pub equal-eq : (p q : EscActuatorRequest) → equal p q ≡ true → p ≡ q
 equal-eq p q e =

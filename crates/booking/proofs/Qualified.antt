@@ -27,7 +27,7 @@ use Rattle.booking.specs.IdleRule.{check, verdict, valid, pastGrace, erp
 use Rattle.booking.specs.Rule.{answerTo, withRoom, ruleFor}
 use Rattle.booking.specs.Run.{run}
 use Rattle.booking.specs.Qualified.{counted, Earned, QualifiedOnlyIf}
-use Rattle.booking.proofs.ManagerSteps.{and-left, and-right}
+use Rattle.base.proofs.Both.{and-left, and-right}
 use Rattle.booking.proofs.Traced.{replies-by-rule}
 use Rattle.booking.proofs.Lawful.{lawful-after}
 use Rattle.booking.proofs.Asked.{Shows, checks, passes, asks, shown}

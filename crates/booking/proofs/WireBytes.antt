@@ -24,18 +24,14 @@ use Rattle.booking.specs.Wire.{OnWire, byte, cut, onWire, wire, checked,
 use Rattle.booking.specs.Booking.{latestFrame}
 use Rattle.booking.specs.Run.{feed, run}
 use Rattle.booking.specs.Claims.{pastOf, pastAfter}
-use Rattle.booking.specs.FirstNine.{areBytes, ofBytes}
-use Rattle.booking.proofs.ManagerSteps.{and-left, and-right}
+use Rattle.base.specs.Bytes.{areBytes}
+use Rattle.base.proofs.BytesLaws.{bytes-below}
+use Rattle.booking.specs.FirstNine.{ofBytes}
+use Rattle.base.proofs.Both.{and-left, and-right}
 
 -- each of them is below 256
 abbrev pub Bytes : List ℕ → Type 0
 Bytes s = (k : ℕ) → getD s k 0 < 256
-
-pub bytes : (s : List ℕ) → areBytes s ≡ true → Bytes s
-unfolding areBytes
-bytes [] e k = omega arith
-bytes (b ∷ s) e zero = ltb-true b 256 (and-left _ _ e)
-bytes (b ∷ s) e (suc k) = bytes s (and-right (ltb b 256) _ e) k
 
 bytes-snoc : (s : List ℕ) (b : ℕ) → Bytes s → b < 256 → Bytes (s ++ b ∷ [])
 bytes-snoc [] b h l zero = l
@@ -73,7 +69,7 @@ record-byte : (s : List ℕ) → Bytes s → ByteIn (recordOf s)
 unfolding recordOf byteOf areBytes
 record-byte s h =
     rw (← List·getD-map byteOf)
-    (bytes (0 ∷ 0 ∷ 0 ∷ 0 ∷ 0 ∷ getD s 1 0 ∷ 0 ∷ 0 ∷ 0 ∷ 0 ∷ 0 ∷ 0 ∷ 0 ∷ 0 ∷ 0 ∷ []) (rw (lt-ltb (getD s 1 0) 256 (h 1))) (getD s 0 0))
+    (bytes-below (0 ∷ 0 ∷ 0 ∷ 0 ∷ 0 ∷ getD s 1 0 ∷ 0 ∷ 0 ∷ 0 ∷ 0 ∷ 0 ∷ 0 ∷ 0 ∷ 0 ∷ 0 ∷ []) (rw (lt-ltb (getD s 1 0) 256 (h 1))) (getD s 0 0))
 
 abbrev InReply : Reply Record → Type 0
 InReply (refused n) = Unit {0}
@@ -113,7 +109,7 @@ seen-byte (kind.StoredSample l) a i = tt
 seen-byte (kind.Figures l) a i = tt
 
 pub seen-below : (s : List ℕ) (r : Record) (a : Answer) → areBytes s ≡ true → readRecord s ≡ accepted r → Each Below (seen r a .wire .byte)
-seen-below s r a e read = seen-byte r a (subst InReply read (read-byte s (bytes s e)))
+seen-below s r a e read = seen-byte r a (subst InReply read (read-byte s (bytes-below s e)))
 
 abbrev pub Heard : Past → Type 0
 Heard [] = Unit {0}
@@ -135,7 +131,7 @@ heard-feed [] u h e i = i
 heard-feed (c ∷ cs) u h e i =
     heard-feed cs (callOf u (c .bytes) (c .room) .unit) (record { call = c; reply = callOf u (c .bytes) (c .room) .reply } ∷ h)
     (and-right (areBytes (c .bytes)) _ e)
-    (heard-event (readRecord (c .bytes)) (read-byte (c .bytes) (bytes (c .bytes) (and-left _ _ e))) (callOf u (c .bytes) (c .room) .reply) (since h) i)
+    (heard-event (readRecord (c .bytes)) (read-byte (c .bytes) (bytes-below (c .bytes) (and-left _ _ e))) (callOf u (c .bytes) (c .room) .reply) (since h) i)
 
 -- after a list of records made of bytes, only bytes were heard
 pub heard-after : (cs : List Call) → ofBytes cs ≡ true → Heard (pastAfter cs)

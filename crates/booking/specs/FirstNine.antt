@@ -4,9 +4,9 @@ use mathlib.Core.Path.{_≡_}
 use mathlib.Core.Bool.{Bool, true, _&&_}
 use mathlib.Core.List.{List, [], _∷_, _++_}
 use mathlib.Core.Option.{Option, none, some}
-use lib.Dec.{ltb}
 use lib.ListN.{length, getD, take}
 use Rattle.base.specs.Reply.{accepted}
+use Rattle.base.specs.Bytes.{areBytes}
 use Rattle.base.specs.BigEndian.{bytesOf}
 use Rattle.blheli_telemetry.specs.Crc.{crcOf}
 use Rattle.esc_feedback.specs.Output.{laneOf}
@@ -23,12 +23,8 @@ use Rattle.booking.specs.Wire.{Frame, wire, frameAt, timed}
 use Rattle.booking.specs.Booking.{openRequest, latestFrame}
 use Rattle.booking.specs.Claims.{pastAfter, replyAfter}
 
--- a byte is below 256. Every caller lends bytes, but a list of numbers may hold more: see `bytes-needed` (proofs/FirstLive.antt)
-unfoldable pub areBytes : List ℕ → Bool
-areBytes [] = true
-areBytes (b ∷ s) = ltb b 256 && areBytes s
-
--- every record of a list is made of bytes
+-- every record of a list is made of bytes. Every caller lends bytes, but a list of numbers may hold more: see `bytes-needed`
+-- (proofs/FirstLive.antt)
 unfoldable pub ofBytes : List Call → Bool
 ofBytes [] = true
 ofBytes (c ∷ cs) = areBytes (c .bytes) && ofBytes cs

@@ -7,6 +7,7 @@ use native.Mathlib.Nat.{not-suc-le-zero, le-of-suc-le-suc}
 use lib.ListN.{length}
 use borrow.Author.Tests.{lt-ltb, le-ltb, leb-true}
 use Rattle.base.specs.Choice.{pick}
+use Rattle.base.proofs.Both.{and-left, and-right}
 use Rattle.base.specs.Saturated.{saturated}
 use Rattle.base.specs.Due.{due}
 use Rattle.esc_idle.specs.IdleLane.{clearLane, countUp, countLane, newestExpired, expireLane, enough, everyEnough, countOf}
@@ -43,12 +44,8 @@ module _ (age now : ℕ) (l : IdleLane) where
   expire-kept e = ap (λ (b : Bool). pick b clearLane l) e
 
 -- where every lane has enough, each has
-both : (a b : Bool) → a && b ≡ true → (a ≡ true) × (b ≡ true)
-both true b e = (refl, e)
-both false b e = absurd (false≢true e)
-
 pub every-at : (required : ℕ) (ls : List IdleLane) → everyEnough required ls ≡ true → (k : ℕ) → k < length ls → required ≤ countOf ls k
 unfolding everyEnough
 every-at required [] e k h = absurd (not-suc-le-zero h)
-every-at required (l ∷ ls) e zero h = leb-true _ _ (both (enough required l) (everyEnough required ls) e .0)
-every-at required (l ∷ ls) e (suc k) h = every-at required ls (both (enough required l) (everyEnough required ls) e .1) k (le-of-suc-le-suc h)
+every-at required (l ∷ ls) e zero h = leb-true _ _ (and-left (enough required l) (everyEnough required ls) e)
+every-at required (l ∷ ls) e (suc k) h = every-at required ls (and-right (enough required l) (everyEnough required ls) e) k (le-of-suc-le-suc h)
