@@ -3,7 +3,7 @@ use mathlib.Core.Path.{_≡_}
 use mathlib.Core.Bool.{true}
 use mathlib.Core.List.{_∷_}
 use Rattle.attribution.specs.Marks.{LogEntry, Log}
-use Rattle.attribution.specs.Wiring.{EntryTest, always}
+use Rattle.attribution.specs.Tests.{EntryTest, always}
 use Rattle.base.proofs.Both.{and-left, and-right}
 
 module _ (t : EntryTest) (l : Log) (e : LogEntry) (x : always t (e ∷ l) ≡ true) where

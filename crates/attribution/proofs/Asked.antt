@@ -19,9 +19,9 @@ use Rattle.attribution.specs.Marks.{LogEntry, Log}
 use Rattle.attribution.specs.Origin.{requests, sentBy, Arrival, sentAs}
 use Rattle.attribution.specs.Since.{takenSince, valuesOf, all}
 use Rattle.attribution.specs.Attributed.{values, SentFrame, CameFrom}
-use Rattle.attribution.proofs.Since.{since-same, since-more, taken-before}
+use Rattle.attribution.proofs.Since.{requests-keep, since-same, since-more, taken-before}
 use Rattle.attribution.proofs.Within.{ReadFrom}
-use Rattle.attribution.proofs.Spent.{Spent, requests-keep, spent-keeps, Origin}
+use Rattle.attribution.proofs.Spent.{Spent, spent-keeps, Origin}
 
 -- the bytes since the latest 02 are request k's, and with them it has sent at most ten
 pub record Own (l : Log) (k : ℕ) : Type 0 where

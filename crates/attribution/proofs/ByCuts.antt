@@ -4,8 +4,9 @@ use mathlib.Core.List.{List, [], _∷_}
 use mathlib.Core.Bool.{true, false≢true}
 use Rattle.booking.specs.Wire.{OnWire, byte, cut, wire, latest}
 use Rattle.attribution.specs.Marks.{Log, past}
-use Rattle.attribution.specs.Wiring.{always}
-use Rattle.attribution.specs.Cutting.{asking, noByteSince, cutFirst}
+use Rattle.attribution.specs.Tests.{always}
+use Rattle.attribution.specs.Cut.{noByteSince, aCut}
+use Rattle.attribution.specs.Cutting.{asking}
 use Rattle.attribution.specs.Attributed.{AttributedByCuts}
 use Rattle.attribution.proofs.Always.{now, before}
 use Rattle.attribution.proofs.LawfulLog.{lawful-at}
@@ -19,10 +20,10 @@ cut-clean [] e = refl
 cut-clean (cut ∷ w) e = refl
 cut-clean (byte b ∷ w) e = absurd (false≢true e)
 
-pub clean-grants : (l : Log) → always cutFirst l ≡ true → CleanGrants l
+pub clean-grants : (l : Log) → always aCut l ≡ true → CleanGrants l
 clean-grants [] c = tt
 clean-grants (e ∷ l) c =
-    (λ g x. cut-clean (wire (past l)) (rw x at (now cutFirst l e c)), clean-grants l (before cutFirst l e c))
+    (λ g x. cut-clean (wire (past l)) (rw x at (now aCut l e c)), clean-grants l (before aCut l e c))
 
 pub attributed-by-cuts : AttributedByCuts
 attributed-by-cuts ms later e l u x d a =

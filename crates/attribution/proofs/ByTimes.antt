@@ -13,7 +13,8 @@ use Rattle.booking.specs.History.{Byte}
 use Rattle.booking.specs.Faults.{faulted}
 use Rattle.attribution.specs.Marks.{LogEntry, Log, sinceIn, past}
 use Rattle.attribution.specs.Origin.{atRecovery, atOpening}
-use Rattle.attribution.specs.Wiring.{always, whileNoFault, ofOrigin, ofEachByte, quietRecovery, quietOpening}
+use Rattle.attribution.specs.Tests.{always, ofOrigin}
+use Rattle.attribution.specs.Wiring.{whileNoFault, ofEachByte, quietRecovery, quietOpening}
 use Rattle.attribution.specs.Times.{clockAt, quietTime}
 use Rattle.attribution.specs.Attributed.{AttributedByTimes}
 use Rattle.attribution.proofs.LawfulLog.{Lawful, opened, more, lawful-at}

@@ -18,8 +18,8 @@ use Rattle.attribution.specs.Origin.{requests}
 use Rattle.attribution.specs.EachSample.{bookedOn}
 use Rattle.attribution.proofs.LawfulLog.{Lawful}
 use Rattle.attribution.proofs.Steps.{Passes, passing, Step, plain, grants, takes, answers, ends, restarts}
+use Rattle.attribution.proofs.Since.{requests-keep}
 use Rattle.attribution.proofs.Along.{openingOf, along}
-use Rattle.attribution.proofs.Spent.{requests-keep}
 use Rattle.attribution.proofs.WireSteps.{frame-same, latest-now}
 
 pub record Delivery (h : Past) (e : LogEntry) (u : EscTelemetryUpdate) : Type 0 where

@@ -2,13 +2,13 @@ pub mod Unseen
 pub mod ByRule
 pub mod LawfulLog
 pub mod Always
+pub mod Since
 pub mod Steps
 pub mod Along
 pub mod Calm
 pub mod Latest
 pub mod Spent
 pub mod WireSteps
-pub mod Since
 pub mod Within
 pub mod Delivery
 pub mod Asked

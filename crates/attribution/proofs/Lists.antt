@@ -15,10 +15,12 @@ use Rattle.booking.specs.History.{Byte}
 use Rattle.booking.proofs.Session.{roomy}
 use Rattle.attribution.specs.Marks.{Marked, MarkedHistory, Log, logOf, logAfter}
 use Rattle.attribution.specs.Origin.{requests}
-use Rattle.attribution.specs.Wiring.{always, Scope, whileNoFault, noNoise, askedFirst, oneFrame, quietRecovery, quietOpening}
+use Rattle.attribution.specs.Tests.{always}
+use Rattle.attribution.specs.Wiring.{Scope, whileNoFault, noNoise, askedFirst, oneFrame, quietRecovery, quietOpening}
 use Rattle.attribution.specs.Times.{steadyClock, prompt, patientOpening}
-use Rattle.attribution.specs.Cutting.{asking, cutFirst}
-use Rattle.attribution.specs.Pace.{askedAndDoneInTime, oneClock, settings, aCut}
+use Rattle.attribution.specs.Cut.{aCut}
+use Rattle.attribution.specs.Cutting.{asking}
+use Rattle.attribution.specs.Pace.{askedAndDoneInTime, oneClock, settings}
 use Rattle.attribution.proofs.ByRule.{traceMarked, marked-by-rule}
 
 abbrev pub unmarked : List ℕ → Marked
@@ -125,7 +127,7 @@ timingFails l =
     ∷ [])
 
 abbrev pub cuttingFails : Log → List Name
-cuttingFails l = failing (five asking l ++ record { name = cutting; holds = always cutFirst l } ∷ [])
+cuttingFails l = failing (five asking l ++ record { name = cutting; holds = always aCut l } ∷ [])
 
 -- and those of the form with noise
 abbrev pub paceFails : ℕ → Log → List Name

@@ -18,7 +18,8 @@ use Rattle.booking.specs.IdleRule.{check, verdict, streak, judged}
 use Rattle.booking.specs.Rule.{ruleFor}
 use Rattle.attribution.specs.Marks.{Marked, logOf, logAfter, sinceIn}
 use Rattle.attribution.specs.Origin.{requests, sentBy, atRecovery, atOpening}
-use Rattle.attribution.specs.Wiring.{always, whileNoFault, Wiring}
+use Rattle.attribution.specs.Tests.{always}
+use Rattle.attribution.specs.Wiring.{whileNoFault, Wiring}
 use Rattle.attribution.specs.Clock.{latestT}
 use Rattle.attribution.specs.Times.{lastHeard, Timing}
 use Rattle.attribution.specs.Cutting.{Cutting}

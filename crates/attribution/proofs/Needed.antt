@@ -19,7 +19,7 @@ use Rattle.booking.specs.IdleRule.{check, verdict, streak, judged}
 use Rattle.booking.specs.Rule.{ruleFor}
 use Rattle.attribution.specs.Marks.{Marked, logOf, logAfter, sinceIn}
 use Rattle.attribution.specs.Origin.{requests, sentBy, atRecovery, atOpening}
-use Rattle.attribution.specs.Wiring.{always}
+use Rattle.attribution.specs.Tests.{always}
 use Rattle.attribution.specs.Clock.{latestT}
 use Rattle.attribution.specs.Times.{lastHeard}
 use Rattle.attribution.specs.Attributed.{CameFrom}

@@ -20,9 +20,10 @@ use Rattle.booking.specs.Turns.{lastQueued}
 use Rattle.attribution.specs.Marks.{LogEntry, Log, sinceIn}
 use Rattle.attribution.specs.Origin.{requests}
 use Rattle.attribution.specs.Since.{takenSince, each}
-use Rattle.attribution.specs.Wiring.{ofOrigin}
+use Rattle.attribution.specs.Tests.{ofOrigin}
 use Rattle.attribution.specs.Clock.{latestT, queuedAt}
-use Rattle.attribution.specs.Pace.{askedAndDoneInTime, ticks, oneClock, spacious, settings, aCut, Pace}
+use Rattle.attribution.specs.Cut.{aCut}
+use Rattle.attribution.specs.Pace.{askedAndDoneInTime, ticks, oneClock, spacious, settings, Pace}
 use Rattle.attribution.specs.NeverAnotherArm.{noOther}
 use Rattle.base.proofs.Both.{and-left, and-right}
 use Rattle.attribution.proofs.Always.{now, before}
@@ -30,8 +31,7 @@ use Rattle.attribution.proofs.Clock.{time-grows, time-now}
 use Rattle.attribution.proofs.LawfulLog.{Lawful}
 use Rattle.attribution.proofs.Steps.{Shows, Free, Step, plain, grants, takes, answers, ends, restarts}
 use Rattle.attribution.proofs.Along.{openingOf, along}
-use Rattle.attribution.proofs.Spent.{requests-keep}
-use Rattle.attribution.proofs.Since.{since-same, since-more, since-grant, each-append}
+use Rattle.attribution.proofs.Since.{requests-keep, since-same, since-more, since-grant, each-append}
 
 -- Due modulo 2^64 is plain subtraction on a clock that did not fall
 due-after : (t now d : ℕ) → t < 2 ^ 64 → t ≤ now → due t now d ≡ true → t + d ≤ now

@@ -24,7 +24,7 @@ use Rattle.booking.proofs.Session.{roomy}
 use Rattle.attribution.specs.Marks.{Marked, callsOf, Log, logOf, logAfter, sinceIn}
 use Rattle.attribution.specs.Origin.{requests}
 use Rattle.attribution.specs.Since.{takenSince}
-use Rattle.attribution.specs.Wiring.{always}
+use Rattle.attribution.specs.Tests.{always}
 use Rattle.attribution.specs.Clock.{latestT, queuedAt}
 use Rattle.attribution.specs.Pace.{spacious, Pace}
 use Rattle.base.specs.Bytes.{areBytes}

@@ -1,4 +1,4 @@
--- The bytes since the latest 02: what one entry more makes of them, and a test that each of them passes.
+-- The requests granted, and the bytes since the latest 02: what one entry more makes of them, and a test that each byte passes.
 use mathlib.Core.Path.{_≡_, refl, sym, _∙_}
 use mathlib.Core.List.{List, [], _∷_, _++_, append-assoc, append-nil}
 use mathlib.Core.Option.{Option, none, some}
@@ -6,11 +6,15 @@ use mathlib.Core.Bool.{Bool, true, false, _&&_}
 use Prim.Native.Nat.{ℕ}
 use Rattle.booking.specs.History.{Timed, Byte}
 use Rattle.attribution.specs.Marks.{LogEntry, Log}
-use Rattle.attribution.specs.Origin.{Arrival, arrivals}
+use Rattle.attribution.specs.Origin.{requests, Arrival, arrivals}
 use Rattle.attribution.specs.Since.{takenSince, each}
 use Rattle.base.proofs.Both.{and-left, and-right}
 
 module _ (l : Log) (e : LogEntry) where
+  pub requests-keep : e .seen .requests .granted ≡ none → requests (e ∷ l) ≡ requests l
+  unfolding requests
+  requests-keep g = rw g
+
   pub since-same : e .seen .requests .granted ≡ none → e .seen .wire .byte ≡ none → takenSince (e ∷ l) ≡ takenSince l
   unfolding takenSince
   since-same g b = rw (g, b) (append-nil (takenSince l))

@@ -13,8 +13,10 @@ use Rattle.base.specs.Maybe.{is}
 use Rattle.booking.specs.History.{Byte}
 use Rattle.attribution.specs.Marks.{LogEntry, Log}
 use Rattle.attribution.specs.Origin.{requests, addByte, sentBy, atRecovery, atOpening}
-use Rattle.attribution.specs.Wiring.{Scope, ofOrigin, noNoise, askedFirst, oneFrame, quietRecovery, quietOpening, Wiring}
+use Rattle.attribution.specs.Tests.{ofOrigin}
+use Rattle.attribution.specs.Wiring.{Scope, noNoise, askedFirst, oneFrame, quietRecovery, quietOpening, Wiring}
 use Rattle.attribution.proofs.Always.{now, before}
+use Rattle.attribution.proofs.Since.{requests-keep}
 
 -- the requests numbered below n have nothing left to send
 abbrev pub Spent : Log → ℕ → Type 0
@@ -28,10 +30,6 @@ sent-grows k (some j) (some b) bs = go (eqb j k)
     go : (c : Bool) → length bs ≤ length (pick c (bs ++ b ∷ []) bs)
     go true = simp length-append (omega arith)
     go false = omega arith
-
-pub requests-keep : (l : Log) (e : LogEntry) → e .seen .requests .granted ≡ none → requests (e ∷ l) ≡ requests l
-unfolding requests
-requests-keep l e g = rw g
 
 module _ (l : Log) (e : LogEntry) (o : e .seen .opening ≡ none) (r : e .seen .requests .recovered ≡ false) where
   pub spent-keeps : (n : ℕ) → Spent l n → Spent (e ∷ l) n

@@ -20,15 +20,15 @@ use Rattle.booking.specs.Faults.{faulted, quietSince, retries}
 use Rattle.booking.specs.Claims.{pastOf}
 use Rattle.attribution.specs.Marks.{LogEntry, Log, sinceIn, past}
 use Rattle.attribution.specs.Origin.{requests, atRecovery, atOpening}
-use Rattle.attribution.specs.Wiring.{always}
+use Rattle.attribution.specs.Tests.{always}
 use Rattle.attribution.specs.Clock.{latestT}
 use Rattle.attribution.specs.Times.{stamped, clockAt, byteAt, lastHeard, quietTime, quietOf, steadyClock, prompt, waitsFor, patientOpening}
 use Rattle.attribution.proofs.Always.{now, before}
 use Rattle.attribution.proofs.LawfulLog.{Lawful}
 use Rattle.attribution.proofs.Steps.{Shows, Step, plain, grants, takes, answers, ends, restarts}
+use Rattle.attribution.proofs.Since.{requests-keep}
 use Rattle.attribution.proofs.Along.{openingOf, along}
 use Rattle.attribution.proofs.Heard.{earlier, clock-grows, clock-now, stamped-grant, stamped-byte, stamped-timeout, stamped-recovery, earlier-keeps, heard-keeps, heard-grant, heard-byte, fault-keeps, quiet-grows}
-use Rattle.attribution.proofs.Spent.{requests-keep}
 
 -- nothing was heard after the quiet start, nor within the quiet time before a recovery or an opening of the requests before it
 pub record Timely (l : Log) (h : Past) (quiet : ℕ) : Type 0 where

@@ -3,7 +3,7 @@ use mathlib.Core.Path.{_≡_, refl, subst}
 use mathlib.Core.List.{List, [], _∷_, _++_}
 use mathlib.Core.Option.{Option}
 use mathlib.Core.Bool.{Bool, true, false, _&&_}
-use Prim.Native.Nat.{ℕ, zero, suc, _+_, _^_, _<_, max}
+use Prim.Native.Nat.{ℕ, zero, suc, _^_, _<_, max}
 use native.Mathlib.Omega.{arith}
 use lib.ListN.{getD, length}
 use lib.Dec.{eqb, ltb}
@@ -11,6 +11,7 @@ use borrow.Author.Tests.{ltb-true, lt-ltb}
 use Rattle.base.specs.Choice.{pick}
 use Rattle.base.specs.Reply.{Reply, accepted, refused}
 use Rattle.base.specs.BigEndian.{numberAt}
+use Rattle.base.proofs.BigEndianLaws.{number-fits}
 use Rattle.esc_records.specs.Record.{recordOf, readRecord, knownKind, widthOf, laneFits, flagFits}
 use Rattle.esc_unit.specs.Unit.{neverOpened, callOf}
 use Rattle.esc_records.specs.declared.record.Record.{Record}
@@ -21,7 +22,7 @@ use Rattle.booking.specs.History.{Seen, seen}
 use Rattle.attribution.specs.Marks.{Marked, callsOf, MarkedHistory, feedMarked, runMarked, LogEntry, Log, logged, logOf, logAfter}
 use Rattle.attribution.specs.Clock.{latestT}
 use Rattle.base.specs.Bytes.{areBytes}
-use Rattle.base.proofs.BytesLaws.{bytes-below, number-fits}
+use Rattle.base.proofs.BytesLaws.{bytes-below}
 use Rattle.booking.specs.FirstNine.{ofBytes}
 use Rattle.base.proofs.Both.{and-left, and-right}
 use Rattle.attribution.proofs.Clock.{time-grows}
@@ -76,7 +77,7 @@ module _ (kinds : Seen → Bool) where
       go false long lane flag = w
 
   wide-fed : (ms : List Marked) (u : Unit) (h : MarkedHistory) → ofBytes (callsOf ms) ≡ true → Wide (logOf h) → Wide (logOf (feedMarked u h ms))
-  unfolding feedMarked logOf
+  unfolding feedMarked logOf ofBytes
   wide-fed [] u h b w = w
   wide-fed (m ∷ ms) u h b w =
       wide-fed ms (callOf u (m .call .bytes) (m .call .room) .unit) _ (and-right (areBytes (m .call .bytes)) _ b)

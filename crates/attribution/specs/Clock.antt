@@ -9,7 +9,7 @@ use Rattle.base.specs.Choice.{pick}
 use Rattle.booking.specs.History.{Timed, Seen}
 use Rattle.attribution.specs.Marks.{Log}
 use Rattle.attribution.specs.Origin.{requests}
-use Rattle.attribution.specs.Wiring.{EntryTest}
+use Rattle.attribution.specs.Tests.{EntryTest}
 
 -- the latest T of the records of some kinds
 unfoldable pub latestT : (Seen → Bool) → Log → ℕ

@@ -2,8 +2,10 @@ pub mod Marks
 pub mod Origin
 pub mod Since
 pub mod EachSample
-pub mod Wiring
+pub mod Tests
 pub mod Clock
+pub mod Cut
+pub mod Wiring
 pub mod Times
 pub mod Cutting
 pub mod Attributed

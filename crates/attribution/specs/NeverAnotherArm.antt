@@ -13,7 +13,7 @@ use Rattle.booking.specs.FirstNine.{ofBytes}
 use Rattle.attribution.specs.Marks.{Marked, callsOf, Log}
 use Rattle.attribution.specs.Origin.{requests}
 use Rattle.attribution.specs.Since.{takenSince, valuesOf, each, Ten, all, Run}
-use Rattle.attribution.specs.Wiring.{ofOrigin}
+use Rattle.attribution.specs.Tests.{ofOrigin}
 use Rattle.attribution.specs.EachSample.{bookedOn, OfEachSample}
 use Rattle.attribution.specs.Pace.{Pace}
 

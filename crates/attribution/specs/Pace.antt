@@ -9,9 +9,9 @@ use Rattle.base.specs.Maybe.{is}
 use Rattle.booking.specs.History.{Opening, Seen}
 use Rattle.attribution.specs.Marks.{Log}
 use Rattle.attribution.specs.Origin.{requests}
-use Rattle.attribution.specs.Wiring.{EntryTest, always, ofOrigin}
+use Rattle.attribution.specs.Tests.{EntryTest, always, ofOrigin}
 use Rattle.attribution.specs.Clock.{steady, queuedAt}
-use Rattle.attribution.specs.Cutting.{cutFirst}
+use Rattle.attribution.specs.Cut.{aCut}
 
 -- asked, and done in time: a byte with origin k comes in after request k was granted, and at a T less than P above the T of its 02
 abbrev pub askedAndDoneInTime : ℕ → EntryTest
@@ -33,10 +33,6 @@ spacious P (some o) = leb P (o .config .«boot_delay_ms») && leb P (o .config .
 -- settings: in each accepted 00 the boot delay and the period are at least P
 abbrev pub settings : ℕ → EntryTest
 settings P l e = spacious P (e .seen .opening)
-
--- a cut: when a 02 is granted, no byte came in since the latest cut or opening
-abbrev pub aCut : EntryTest
-aCut l e = cutFirst l e
 
 pub record Pace (P : ℕ) (l : Log) : Type 0 where
   pub asked : always (askedAndDoneInTime P) l ≡ true

@@ -11,7 +11,8 @@ use Rattle.base.specs.Maybe.{is}
 use Rattle.booking.specs.History.{Opening, Byte, Seen, Since}
 use Rattle.attribution.specs.Marks.{Log, sinceIn}
 use Rattle.attribution.specs.Origin.{requests}
-use Rattle.attribution.specs.Wiring.{EntryTest, always, whileNoFault, ofOrigin, ofEachByte, noNoise, askedFirst, oneFrame}
+use Rattle.attribution.specs.Tests.{EntryTest, always, ofOrigin}
+use Rattle.attribution.specs.Wiring.{whileNoFault, ofEachByte, noNoise, askedFirst, oneFrame}
 use Rattle.attribution.specs.Clock.{latestT, steady, grantAt}
 
 -- a 00, a 02 answered yes, a 05, a 04 answered with a timeout, a 07 answered yes

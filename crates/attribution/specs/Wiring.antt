@@ -2,22 +2,14 @@
 use Prim.Native.Nat.{ℕ}
 use mathlib.Core.Path.{_≡_}
 use mathlib.Core.Bool.{Bool, true, not, _&&_, _||_}
-use mathlib.Core.List.{[], _∷_}
-use mathlib.Core.Option.{Option, none, some}
+use mathlib.Core.Option.{Option}
 use lib.Dec.{leb, ltb}
 use lib.ListN.{length}
 use Rattle.base.specs.Maybe.{is}
 use Rattle.booking.specs.Faults.{faulted}
-use Rattle.attribution.specs.Marks.{LogEntry, Log, past}
+use Rattle.attribution.specs.Marks.{Log, past}
 use Rattle.attribution.specs.Origin.{requests, sentBy, atRecovery, atOpening}
-
--- a test on an entry, given the log before it
-abbrev pub EntryTest : Type 0
-EntryTest = Log → LogEntry → Bool
-
-unfoldable pub always : EntryTest → Log → Bool
-always t [] = true
-always t (e ∷ l) = t l e && always t l
+use Rattle.attribution.specs.Tests.{EntryTest, always, ofOrigin}
 
 -- when a byte is spoken of
 abbrev pub Scope : Type 0
@@ -26,10 +18,6 @@ Scope = Log → Bool
 -- while no fault stands
 abbrev pub whileNoFault : Scope
 whileNoFault l = not (faulted (past l))
-
-abbrev pub ofOrigin : (ℕ → Bool) → Option ℕ → Bool
-ofOrigin test none = true
-ofOrigin test (some k) = test k
 
 abbrev pub ofEachByte : Scope → (Option ℕ → Bool) → EntryTest
 ofEachByte scope test l e = not (is (e .seen .wire .byte) && scope l) || test (e .origin)

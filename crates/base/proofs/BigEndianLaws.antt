@@ -1,7 +1,7 @@
 -- Numbers highest byte first: their bytes, and writing these over a buffer one after the other.
 use mathlib.Core.Path.{_≡_, refl, sym, _∙_}
 use mathlib.Core.List.{List, [], _∷_, _++_, append-assoc}
-use Prim.Native.Nat.{ℕ, zero, suc, _+_, _*_, _/_, _%_, _<_, _≤_}
+use Prim.Native.Nat.{ℕ, zero, suc, _+_, _*_, _/_, _%_, _^_, _<_, _≤_}
 use native.Mathlib.Omega.{arith}
 use native.Mathlib.Nat.{add-zero, zero-add, add-suc, add-assoc}
 use native.Mathlib.Numerals.{add-one}
@@ -35,6 +35,12 @@ bytes-number (suc k) s at byte h =
     let low : (numberAt k s at * 256 + getD s (at + k) 0) % 256 ≡ getD s (at + k) 0 = omega (arith, byte (at + k)) in
     let n : k < length (drop at s) = simp length-drop (omega (arith, add-suc at k)) in
     rw (high, low, bytes-number k s at byte (omega (arith, add-suc at k)), take-suc (drop at s) k 0 n, getD-drop)
+
+-- k bytes spell a number below 256 ^ k
+pub number-fits : (k : ℕ) (s : List ℕ) (at : ℕ) → ((i : ℕ) → getD s i 0 < 256) → numberAt k s at < 256 ^ k
+unfolding numberAt
+number-fits zero s at byte = omega arith
+number-fits (suc k) s at byte = omega (arith, number-fits k s at byte, byte (at + k))
 
 pub overwrite-length : (at : ℕ) (b s : List ℕ) → at + length b ≤ length s → length (overwrite at b s) ≡ length s
 unfolding overwrite

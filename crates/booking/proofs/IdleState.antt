@@ -10,8 +10,8 @@ use lib.ListN.{length}
 use Rattle.base.specs.Choice.{pick}
 use Rattle.base.specs.Due.{due}
 use Rattle.esc_idle.specs.IdleConfig.{validSettings}
-use Rattle.esc_idle.specs.IdleLane.{clearLane, countLane, expired as unitExpired, expireLane, expireLanes, everyEnough}
-use Rattle.esc_idle.specs.Idle.{newIdle, saying, decided, freshAt, weighed as unitWeighed, statusOf, sampled, measured, observeOf}
+use Rattle.esc_idle.specs.IdleLane.{clearLane, countLane, newestExpired, expireLane, expireLanes, everyEnough}
+use Rattle.esc_idle.specs.Idle.{newIdle, saying, decided, freshAt, weighed, statusOf, sampled, measured, observeOf}
 use Rattle.esc_feedback.specs.declared.output.Lane.{Lane}
 use Rattle.esc_feedback.specs.declared.output.Lane.the-variants.{Output1, Output2, Output3, Output4}
 use Rattle.esc_feedback.specs.declared.request.EscTelemetryUpdate.{EscTelemetryUpdate}
@@ -47,7 +47,7 @@ abbrev checkAt : Check → (Lane → List EscTelemetryUpdate) → EscIdleQualifi
 checkAt k f = record { config = k .config; «started_at_ms» = k .start; lanes = lanesOf f; verdict = record { terminal = terminal.None } }
 
 expire-is : (c : EscIdleQualificationConfig) (now : ℕ) (us : List EscTelemetryUpdate) → expireLane (c .«max_sample_age_ms») now (laneFrom us) ≡ laneFrom (fresh c now us)
-unfolding expireLane unitExpired
+unfolding expireLane newestExpired
 expire-is c now [] = refl
 expire-is c now (u ∷ us) = go (expired c now u)
   where
@@ -112,8 +112,8 @@ weigh k g false true = final k g g (timeoutOf g) refl
 weigh k g false false = record { status = refl; config = refl; start = refl; verdict = refl; lanes = λ z. refl }
 
 settle-is : (k : Check) (f : Lane → List EscTelemetryUpdate) (now : ℕ)
-    → Judged k (freshened k f now) (settled k now (freshened k f now)) (unitWeighed (freshAt (checkAt k f) now) now)
-unfolding unitWeighed expireLanes everyEnough
+    → Judged k (freshened k f now) (settled k now (freshened k f now)) (weighed (freshAt (checkAt k f) now) now)
+unfolding weighed expireLanes everyEnough
 settle-is k f now =
     let g = freshened k f now in
     rw (
@@ -141,7 +141,7 @@ abbrev overspeed : EscTelemetryUpdate → EscIdleQualificationStatus
 overspeed u = Failed (Overspeed (u .output) (erpm u))
 
 status-valid : (k : Check) (q : EscIdleQualification) (f : Lane → List EscTelemetryUpdate) (now : ℕ) → validSettings (k .config) ≡ true → q ≡ checkAt k f
-    → statusOf q now ≡ unitWeighed (freshAt (checkAt k f) now) now
+    → statusOf q now ≡ weighed (freshAt (checkAt k f) now) now
 unfolding statusOf
 status-valid k q f now ok e = ap (λ (z : EscIdleQualification). statusOf z now) e ∙ rw ok
 
@@ -156,7 +156,7 @@ measured-is k u f now ok =
     go : (b : Bool)
         → Judged k (freshened k (withSample k u f) now)
         (pick b (overspeed u) (settled k now (freshened k (withSample k u f) now)))
-        (pick b (decided (checkAt k f) (overspeed u)) (unitWeighed (freshAt (checkAt k (withSample k u f)) now) now))
+        (pick b (decided (checkAt k f) (overspeed u)) (weighed (freshAt (checkAt k (withSample k u f)) now) now))
     go true = final k f (freshened k (withSample k u f) now) (overspeed u) refl
     go false = settle-is k (withSample k u f) now
 
@@ -173,7 +173,7 @@ asks-is k f none now = rw (← valid-is (k .config)) (go (validSettings (k .conf
     go : (v : Bool)
         → Judged k (freshened k f now)
         (pick v (settled k now (freshened k f now)) (Failed InvalidConfig))
-        (pick v (unitWeighed (freshAt (checkAt k f) now) now) (decided (checkAt k f) (Failed InvalidConfig)))
+        (pick v (weighed (freshAt (checkAt k f) now) now) (decided (checkAt k f) (Failed InvalidConfig)))
     go true = settle-is k f now
     go false = final k f (freshened k f now) (Failed InvalidConfig) refl
 asks-is k f (some u) now = rw (← valid-is (k .config)) (go (validSettings (k .config)) refl)

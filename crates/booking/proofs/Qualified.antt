@@ -23,7 +23,7 @@ use Rattle.esc_records.specs.declared.record.Record.{Record}
 use Rattle.esc_records.specs.declared.answer.Answer.{Answer}
 use Rattle.esc_records.specs.declared.answer.IdleAnswer.the-variants.{NoCheck, Status}
 use Rattle.booking.specs.History.{Call, Check, Seen, seen, saidBy, Past, Since, since}
-use Rattle.booking.specs.IdleRule.{check, verdict, valid, pastGrace, erpm, fresh, joined, streakAt, run as laneRun, tally, settled, judgedAt}
+use Rattle.booking.specs.IdleRule.{check, verdict, valid, pastGrace, erpm, fresh, joined, streakAt, streak, tally, settled, judgedAt}
 use Rattle.booking.specs.Rule.{answerTo, withRoom, ruleFor}
 use Rattle.booking.specs.Run.{run}
 use Rattle.booking.specs.Qualified.{counted, Earned, QualifiedOnlyIf}
@@ -117,8 +117,8 @@ earned h e i (asks n s) q v = go (check h) refl
     go : (m : Option Check) → check h ≡ m → Earned h e
     go none c = let z : some NoCheck ≡ some (Status Qualified) = rw (unchecked h x (e .now) c) at (sym s ∙ q) in absurd (let y : _≡_ {A = ℕ} 0 1 = cc in omega arith)
     go (some k) c =
-        let w : says k x (e .now) (laneRun h) ≡ Qualified = same-status _ _ (rw (judged-is h k x (e .now) c v) at (sym s ∙ q)) in
-        let g = enough-said k x (e .now) (laneRun h) w in
+        let w : says k x (e .now) (streak h) ≡ Qualified = same-status _ _ (rw (judged-is h k x (e .now) c v) at (sym s ∙ q)) in
+        let g = enough-said k x (e .now) (streak h) w in
         record {
           settings = k;
           latest = c;

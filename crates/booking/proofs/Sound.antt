@@ -15,7 +15,7 @@ use Rattle.esc_records.specs.declared.answer.IdleAnswer.{IdleAnswer}
 use Rattle.esc_records.specs.declared.answer.IdleAnswer.the-variants.{NoCheck, Status}
 use Rattle.base.specs.Maybe.{earliest}
 use Rattle.booking.specs.History.{Opening, Check, Seen, seen, Past}
-use Rattle.booking.specs.IdleRule.{check, verdictIn, verdict, valid, pastGrace, erpm, streakAt, run as laneRun, settled, judgedAt, judged}
+use Rattle.booking.specs.IdleRule.{check, verdictIn, verdict, valid, pastGrace, erpm, streakAt, streak, settled, judgedAt, judged}
 use Rattle.booking.specs.Rule.{answerTo}
 use Rattle.booking.specs.Qualified.{counted}
 use Rattle.booking.proofs.Lawful.{Lawful, start, more}
@@ -46,9 +46,9 @@ not-over k (some u) now f e =
 
 -- while there is no verdict, every run is the newest part of its lane's counted samples
 abbrev pub Sound : Past → Type 0
-Sound h = verdict h ≡ none → (k : Check) → check h ≡ some k → (l : Lane) → Newest (k .config) (laneRun h l) (counted h l)
+Sound h = verdict h ≡ none → (k : Check) → check h ≡ some k → (l : Lane) → Newest (k .config) (streak h l) (counted h l)
 
-pub judged-is : (h : Past) (k : Check) (x : Option EscTelemetryUpdate) (now : ℕ) → check h ≡ some k → verdict h ≡ none → judged h x now ≡ Status (says k x now (laneRun h))
+pub judged-is : (h : Past) (k : Check) (x : Option EscTelemetryUpdate) (now : ℕ) → check h ≡ some k → verdict h ≡ none → judged h x now ≡ Status (says k x now (streak h))
 unfolding judged
 judged-is h k x now c v = rw (c, v)
 
@@ -58,12 +58,12 @@ unchecked h x now c = rw c
 
 -- a lane after a sample or a 0b that did not fail
 module _ (h : Past) (i : Sound h) (e : Seen) (n : e .idle .check ≡ none) (k : Check) (c : check h ≡ some k) (v : verdict h ≡ none) where
-  pub asked-newest : failed (says k (e .requests .delivered) (e .now) (laneRun h)) ≡ false
-      → (l : Lane) → Newest (k .config) (streakAt k (e .requests .delivered) (e .now) l (laneRun h l)) (counted (e ∷ h) l)
+  pub asked-newest : failed (says k (e .requests .delivered) (e .now) (streak h)) ≡ false
+      → (l : Lane) → Newest (k .config) (streakAt k (e .requests .delivered) (e .now) l (streak h l)) (counted (e ∷ h) l)
   unfolding counted
   asked-newest f l =
       rw (n, v, c)
-      (run-counts k (e .requests .delivered) (e .now) l (laneRun h l) (counted h l) (not-over k (e .requests .delivered) (e .now) (laneRun h) f) (i v k c l))
+      (run-counts k (e .requests .delivered) (e .now) l (streak h l) (counted h l) (not-over k (e .requests .delivered) (e .now) (streak h) f) (i v k c l))
 
 none-of : (x y : Option EscIdleQualificationStatus) → earliest x y ≡ none → (x ≡ none) × (y ≡ none)
 none-of none y e = (refl, e)
@@ -76,8 +76,8 @@ unfailed Qualified e = refl
 unfailed (Failed f) e = absurd (Option·none-ne-some (Failed f) (sym e))
 
 asked-run : (h : Past) (e : Seen) (k : Check) (a : IdleAnswer) (l : Lane) → e .idle .check ≡ none → e .idle .status ≡ some a → check h ≡ some k
-    → laneRun (e ∷ h) l ≡ streakAt k (e .requests .delivered) (e .now) l (laneRun h l)
-unfolding laneRun
+    → streak (e ∷ h) l ≡ streakAt k (e .requests .delivered) (e .now) l (streak h l)
+unfolding streak
 asked-run h e k a l n s c = rw (n, s, c)
 
 asked-sound : (h : Past) (e : Seen) → e .idle .check ≡ none → e .idle .status ≡ some (judged h (e .requests .delivered) (e .now)) → Sound h → Sound (e ∷ h)
@@ -88,10 +88,10 @@ asked-sound h e n s i v k c l =
     let both = none-of (verdictIn (e .idle .status)) (verdict h) z in
     let f = rw (s, judged-is h k (e .requests .delivered) (e .now) ch (both .1)) at (both .0) in
     rw (asked-run h e k (judged h (e .requests .delivered) (e .now)) l n s ch)
-    (asked-newest h i e n k ch (both .1) (unfailed (says k (e .requests .delivered) (e .now) (laneRun h)) f) l)
+    (asked-newest h i e n k ch (both .1) (unfailed (says k (e .requests .delivered) (e .now) (streak h)) f) l)
 
 shows-sound : (h : Past) (e : Seen) → Shows h e → Sound h → Sound (e ∷ h)
-unfolding check verdict laneRun counted
+unfolding check verdict streak counted
 shows-sound h e (checks k n s) i v k′ c l = rw n (cleared (k′ .config) [])
 shows-sound h e (passes n s d) i v k c l =
     let ch : check h ≡ some k = rw n at c in
