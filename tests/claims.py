@@ -1,9 +1,9 @@
 #!/usr/bin/env python3
 """What the documents name exists.
 
-In docs/BOOKING.md and docs/CLAIMS.md a name stands in back quotes before its file, as in `conserved`,
+In docs/BOOKING.md, docs/CLAIMS.md and docs/GLOSSARY.md a name stands in back quotes before its file, as in `conserved`,
 `booking/proofs/Conserved.antt`; several names may share a file. Each must be declared there: a theorem, definition, record or
-list of an .antt file, a function of an .rt file. A name with no file must be declared in a file that the document names. A
+list of an .antt file, a function or type of an .rt file. A name with no file must be declared in a file that the document names. A
 path is one from the root or from crates/. Anything else in back quotes is a fault, but for the few words below.
 
 In every document, links and paths in back quotes lead to something.
@@ -13,7 +13,7 @@ import sys
 from pathlib import Path
 
 ROOT = Path(__file__).resolve().parent.parent
-STRICT = ["docs/BOOKING.md", "docs/CLAIMS.md"]
+STRICT = ["docs/BOOKING.md", "docs/CLAIMS.md", "docs/GLOSSARY.md"]
 WORDS = {"ensures", "requires", ".edit", "N passed, 0 failed"}
 # what is made by a build, or is a path in another place
 ELSEWHERE = ("target/", "/")
@@ -42,7 +42,7 @@ def declares(file, name):
     if file.suffix == ".rt":
         owner, _, method = name.rpartition("::")
         owned = not owner or re.search(r"^impl %s\b" % re.escape(owner), text, re.M)
-        return owned and re.search(r"\bfn %s\b" % re.escape(method), text)
+        return owned and re.search(r"\b(?:fn|struct|enum) %s\b" % re.escape(method), text)
     return None
 
 

@@ -22,7 +22,7 @@ def contracts(path):
 
 
 def comments(path):
-    if path.name != "Lib.antt" and not path.read_text().startswith("-- "):
+    if not path.read_text().startswith("-- "):
         yield f"{path}: no comment at its top"
 
 

@@ -1,3 +1,5 @@
+-- Read in this order: a log goes by the rules (to Along); what a step makes of the wire and of each request (to Delivery); the claim in its
+-- forms, from Asked to ByTimes; with noise, from Wide to NeverAnotherArm; then the lists, from Lists on.
 pub mod Unseen
 pub mod ByRule
 pub mod LawfulLog
@@ -7,9 +9,9 @@ pub mod Steps
 pub mod Along
 pub mod Calm
 pub mod Latest
-pub mod Spent
 pub mod WireSteps
 pub mod Within
+pub mod Spent
 pub mod Delivery
 pub mod Asked
 pub mod CameFrom

@@ -32,36 +32,36 @@ use Rattle.attribution.proofs.Refuted.{not-from}
 abbrev pub noise : List Marked
 noise = opening 0 ∷ ask 0 0 1 ++ zeros 10 none 2
 
--- E1 too: one byte of noise before the first request, and the sample of arm 1 begins with a byte of arm 0, since 02 does not cut
+-- E1 too: one byte of noise before the first request, and the sample of lane 1 begins with a byte of lane 0, since 02 does not cut
 abbrev pub shifted : List Marked
 shifted = opening 0 ∷ zeros 1 none 1 ++ (ask 0 0 2 ++ (zeros 10 (some 0) 3 ++ (ask 1 1 4 ++ zeros 9 (some 1) 5)))
 
--- E2: arm 1 sends before it is asked. Its row has it asked afterwards, so that the bytes' request has an arm
+-- E2: lane 1 sends before it is asked. Its row has it asked afterwards, so that the bytes' request has an arm
 abbrev pub early : List Marked
 early = opening 0 ∷ ask 0 0 1 ++ zeros 10 (some 1) 2
 
--- E3: arm 0 sends two frames
+-- E3: lane 0 sends two frames
 abbrev pub twice : List Marked
 twice = opening 0 ∷ ask 0 0 1 ++ (zeros 10 (some 0) 2 ++ (cut ∷ ask 1 1 3 ++ zeros 10 (some 0) 4))
 
 -- E3 too: that a request sends nothing once its sample is delivered would not do. An eleventh byte before the acknowledgement stays on
--- the wire, and nine of arm 1 complete it
+-- the wire, and nine of lane 1 complete it
 abbrev pub eleventh : List Marked
 eleventh = opening 0 ∷ queue 0 0 1 ∷ zeros 11 (some 0) 2 ++ (acknowledge 0 0 3 ∷ ask 1 1 4 ++ zeros 9 (some 1) 5)
 
--- E4, an answer within the quiet time: arm 0 answers 701 after its request, and the quiet time is 500
+-- E4, an answer within the quiet time: lane 0 answers 701 after its request, and the quiet time is 500
 abbrev pub late : List Marked
 late = opening 0 ∷ ask 0 0 1 ++ (poll 200 ∷ recover 700 ∷ ask 1 1 701 ++ zeros 10 (some 0) 702)
 
--- the same to the ms: arm 0 answers 500 after its request
+-- the same to the ms: lane 0 answers 500 after its request
 abbrev pub punctual : List Marked
 punctual = openingWith 0 0 ∷ queue 0 0 1 ∷ poll 1 ∷ recover 501 ∷ ask 1 1 501 ++ zeros 10 (some 0) 501
 
--- a clock that does not run back: arm 0 answers 399 after its request by a clock that was set back by 400
+-- a clock that does not run back: lane 0 answers 399 after its request by a clock that was set back by 400
 abbrev pub back : List Marked
 back = opening 0 ∷ ask 0 0 1 ++ (poll 200 ∷ recover 700 ∷ ask 1 1 300 ++ zeros 10 (some 0) 400)
 
--- E5, a reopening that waits the quiet time: the unit is opened anew 499 after arm 1 was asked, and arm 1 has still to answer
+-- E5, a reopening that waits the quiet time: the unit is opened anew 499 after lane 1 was asked, and lane 1 has still to answer
 abbrev pub reopened : List Marked
 reopened = opening 0 ∷ ask 0 0 1 ++ (zeros 10 (some 0) 2 ++ (cut ∷ ask 1 1 3 ++ (opening 502 ∷ ask 0 0 502 ++ zeros 10 (some 1) 502)))
 

@@ -66,11 +66,11 @@ noisyFlight =
     ∷ cut ∷ ask 1 1 40 ++ (zeros 9 (some 1) 45 ++ (poll 200 ∷ zeros 25 none 201 ++ (recover 701
     -- a byte is lost and noise is in its place
     ∷ ask 2 2 702 ++ (zeros 4 (some 2) 703 ++ (zeros 1 none 703 ++ (zeros 5 (some 2) 704
-    -- a second opening while arm 3 answers
+    -- a second opening while lane 3 answers
     ++ (cut ∷ ask 3 3 722 ++ (zeros 4 (some 3) 723 ++ (openingPaced 20 20 730 ∷ zeros 6 (some 3) 735
     ++ (cut ∷ ask 0 0 750 ++ zeros 10 (some 4) 769)))))))))))))
 
--- arm 0 answers in full, and the wire is cut
+-- lane 0 answers in full, and the wire is cut
 abbrev first : List Marked
 first = ask 0 0 20 ++ (zeros 10 (some 0) 21 ++ cut ∷ [])
 

@@ -1,3 +1,5 @@
+-- Read in this order: two ways to split a proof (ByCases, Table); numbers and their bytes, runs of bytes in a buffer, bytes handed over;
+-- document 01's cases of Due.
 pub mod ByCases
 pub mod Both
 pub mod Table

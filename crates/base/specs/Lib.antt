@@ -1,3 +1,5 @@
+-- Read in this order: a choice, a reply, what may be missing; numbers highest byte first, bytes put into a buffer and handed over;
+-- counts and times.
 pub mod Choice
 pub mod Reply
 pub mod Maybe

@@ -1,4 +1,4 @@
--- A lane's run is the newest part of its counted samples, all of it within limits: a sample below min clears it, one above max
+-- A lane's streak is the newest part of its counted samples, all of it within limits: a sample below min clears it, one above max
 -- ends the check.
 use mathlib.Core.Path.{_≡_, refl, ap}
 use mathlib.Core.List.{List, [], _∷_, _++_, List·Memᴰ, List·Memᴰ·head, List·Memᴰ·tail, List·Memᴰ·not-nil}
@@ -21,7 +21,7 @@ use Rattle.booking.specs.IdleRule.{erpm, expired, pastGrace, fresh, join
 use Rattle.booking.specs.Samples.{added}
 use Rattle.booking.specs.Qualified.{Within, Justified}
 
--- a lane's run among its counted samples
+-- a lane's streak among its counted samples
 pub record Newest (c : EscIdleQualificationConfig) (us all : List EscTelemetryUpdate) : Type 0 where
   pub before : List EscTelemetryUpdate
   pub whole : all ≡ us ++ before
@@ -83,7 +83,7 @@ run-counts k (some u) now l us all n i = go (pastGrace k now) n
     go true n = freshened (k .config) now (joined (k .config) u l us) (added (some u) l all) (counting (k .config) u l us all n i)
     go false n = i
 
--- a run that is long enough, and whose newest has not expired
+-- a streak that is long enough, and whose newest has not expired
 mem-take : (n : ℕ) (us : List EscTelemetryUpdate) (u : EscTelemetryUpdate) → List·Memᴰ u (take n us) → List·Memᴰ u us
 mem-take zero us u m = absurd (List·Memᴰ·not-nil m)
 mem-take (suc n) [] u m = absurd (List·Memᴰ·not-nil m)

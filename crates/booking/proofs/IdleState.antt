@@ -1,4 +1,4 @@
--- The idle check's state as a function of the history: a lane's count and newest sample are those of its run.
+-- The idle check's state as a function of the history: a lane's count and newest sample are those of its streak.
 use mathlib.Core.Path.{_≡_, refl, sym, _∙_, ap, subst}
 use mathlib.Core.List.{List, [], _∷_}
 use mathlib.Core.Option.{Option, none, some, Option·none-ne-some}
@@ -93,7 +93,7 @@ final : (k : Check) (f f′ : Lane → List EscTelemetryUpdate) (v : EscIdleQual
 final k f f′ v e =
     record { status = refl; config = refl; start = refl; verdict = rw e; lanes = λ z. absurd (Option·none-ne-some v (sym z ∙ e)) }
 
--- every lane's run, cleared where its newest has expired
+-- every lane's streak, cleared where its newest has expired
 abbrev freshened : Check → (Lane → List EscTelemetryUpdate) → ℕ → Lane → List EscTelemetryUpdate
 freshened k f now l = fresh (k .config) now (f l)
 

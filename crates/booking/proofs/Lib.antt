@@ -1,4 +1,5 @@
-pub mod Session
+-- Read in this order: the unit's state as a function of the history, up to Traced, on which all else stands; what a past is known by (Accepted,
+-- Lawful); the other claims, each after what it needs; lists on which they speak, from Session on; document 01's cases.
 pub mod Lanes
 pub mod Framing
 pub mod Tallies
@@ -11,22 +12,23 @@ pub mod Traced
 pub mod Accepted
 pub mod Lawful
 pub mod DeliveredExactly
-pub mod RefusalKeeps
+pub mod WireBytes
+pub mod FirstNine
 pub mod FramedAlike
-pub mod ReportCounts
+pub mod FramedFromCut
 pub mod Conserved
-pub mod Live
-pub mod FramedLive
+pub mod ReportCounts
+pub mod RefusalKeeps
 pub mod Asked
 pub mod Counted
 pub mod Sound
 pub mod Qualified
-pub mod QualifiedLive
-pub mod Cases
 pub mod ShownNewest
-pub mod ShownLive
-pub mod FramedFromCut
-pub mod FramedCutLive
+pub mod Session
+pub mod Live
 pub mod FirstLive
-pub mod WireBytes
-pub mod FirstNine
+pub mod FramedLive
+pub mod FramedCutLive
+pub mod QualifiedLive
+pub mod ShownLive
+pub mod Cases

@@ -1,4 +1,4 @@
--- A first Qualified is earned: the rule asks for runs long enough and fresh, and a run is the newest part of a lane's counted samples.
+-- A first Qualified is earned: the rule asks for streaks long enough and fresh, and a streak is the newest part of a lane's counted samples.
 use mathlib.Core.Path.{_≡_, refl, sym, _∙_, ap}
 use mathlib.Core.List.{List, _∷_}
 use mathlib.Core.Option.{Option, none, some, Option·none-ne-some}
@@ -34,7 +34,7 @@ use Rattle.booking.proofs.Asked.{Shows, checks, passes, asks, shown}
 use Rattle.booking.proofs.Counted.{fresh-justified}
 use Rattle.booking.proofs.Sound.{failed, says, Sound, judged-is, unchecked, asked-newest, lawful-sound}
 
--- Qualified: the settings are valid, every lane's run is long enough and has just been looked at for its age
+-- Qualified: the settings are valid, every lane's streak is long enough and has just been looked at for its age
 record Enough (k : Check) (now : ℕ) (g : Lane → List EscTelemetryUpdate) : Type 0 where
   needed : 0 < k .config .«required_consecutive_samples»
   looked : Lane → List EscTelemetryUpdate

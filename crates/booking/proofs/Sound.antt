@@ -1,4 +1,4 @@
--- While the check has given no verdict, every run is the newest part of its lane's counted samples: over every lawful past.
+-- While the check has given no verdict, every streak is the newest part of its lane's counted samples: over every lawful past.
 use mathlib.Core.Path.{_≡_, refl, sym}
 use mathlib.Core.List.{List, [], _∷_}
 use mathlib.Core.Option.{Option, none, some, Option·none-ne-some}
@@ -44,7 +44,7 @@ not-over k (some u) now f e =
     go true true false w z = refl
     go true true true w z = absurd (true≢false z)
 
--- while there is no verdict, every run is the newest part of its lane's counted samples
+-- while there is no verdict, every streak is the newest part of its lane's counted samples
 abbrev pub Sound : Past → Type 0
 Sound h = verdict h ≡ none → (k : Check) → check h ≡ some k → (l : Lane) → Newest (k .config) (streak h l) (counted h l)
 

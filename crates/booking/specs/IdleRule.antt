@@ -58,7 +58,7 @@ expired c now u = due (u .observation .«observed_at_ms») now (min (c .«max_sa
 abbrev pub pastGrace : Check → ℕ → Bool
 pastGrace k now = due (k .start) now (k .config .«spinup_grace_ms»)
 
--- a lane's run is its counted samples since it was last cleared, newest first; a run whose newest has expired is cleared
+-- a lane's streak is its counted samples since it was last cleared, newest first; a streak whose newest has expired is cleared
 abbrev pub fresh : EscIdleQualificationConfig → ℕ → List EscTelemetryUpdate → List EscTelemetryUpdate
 fresh c now [] = []
 fresh c now (u ∷ us) = pick (expired c now u) [] (u ∷ us)
@@ -67,7 +67,7 @@ fresh c now (u ∷ us) = pick (expired c now u) [] (u ∷ us)
 abbrev pub joined : EscIdleQualificationConfig → EscTelemetryUpdate → Lane → List EscTelemetryUpdate → List EscTelemetryUpdate
 joined c u l us = pick (eqb (laneOf (u .output)) (laneNumber l)) (pick (ltb (erpm u) (c .«min_erpm_div100»)) [] (u ∷ us)) us
 
--- a lane's run after a 0b (no sample) or a delivered sample at now
+-- a lane's streak after a 0b (no sample) or a delivered sample at now
 abbrev pub streakAt : Check → Option EscTelemetryUpdate → ℕ → Lane → List EscTelemetryUpdate → List EscTelemetryUpdate
 streakAt k none now l us = fresh (k .config) now us
 streakAt k (some u) now l us = pick (pastGrace k now) (fresh (k .config) now (joined (k .config) u l us)) us

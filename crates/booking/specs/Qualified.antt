@@ -1,5 +1,5 @@
 -- What a first Qualified stands for, over every list of calls (document 01, 'Idle check'; demand 3). The claim reads
--- the samples that were delivered, and not the runs by which the rule answers.
+-- the samples that were delivered, and not the streaks by which the rule answers.
 use Prim.Native.Nat.{ℕ, _≤_}
 use mathlib.Core.Path.{_≡_}
 use mathlib.Core.Bool.{Bool, false, not, _&&_}

@@ -1,4 +1,5 @@
+-- Read in this order: stores into a buffer; the frame; the stream: whether its buffers hold it, and the run over it.
 pub mod StoreLaws
 pub mod ReadLaws
-pub mod Running
 pub mod FitsLaws
+pub mod Running

@@ -1,3 +1,5 @@
+-- Read in this order: lanes, requests, settings, counts; the manager's parts and the manager, with 08; a file for its other calls, 01 to 09;
+-- the stored samples stand beside it.
 pub mod Output
 pub mod Request
 pub mod Config

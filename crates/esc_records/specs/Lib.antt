@@ -1,3 +1,4 @@
+-- Read in this order: records with their refusals, what reading a field asks, answers.
 pub mod Record
 pub mod Whole
 pub mod Answer

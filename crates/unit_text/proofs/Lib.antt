@@ -1,23 +1,25 @@
+-- Read in this order: digits and lines, read and printed; the session, in pieces too, and by the rules (to Traced); then the code's way: a line
+-- that is read, held or cut (to WireRead), its answer, the loop over a chunk, the end, a whole text.
 pub mod DigitLaws
 pub mod LineLaws
-pub mod LineLeft
 pub mod PrintLaws
 pub mod RoundTrip
-pub mod CutLine
-pub mod HoldLaws
-pub mod AnswerLength
 pub mod LinesLaws
-pub mod FirstLine
-pub mod CutLaws
+pub mod CutLine
+pub mod AnswerLength
 pub mod StreamLaws
 pub mod SessionLaws
-pub mod LineTurn
-pub mod Feeding
-pub mod AnswersLaws
+pub mod Traced
+pub mod LineLeft
+pub mod HoldLaws
+pub mod FirstLine
+pub mod CutLaws
 pub mod PairsLaws
 pub mod WholeLine
 pub mod WireRead
+pub mod AnswersLaws
+pub mod LineTurn
+pub mod Feeding
 pub mod FedLaws
 pub mod FinishLaws
 pub mod Passing
-pub mod Traced
