@@ -1,6 +1,11 @@
 pub mod FigureLaws
 pub mod NumberLaws
+pub mod ReaderLaws
+pub mod LayoutLaws
+pub mod FieldLaws
 pub mod RecordLaws
+pub mod Walking
+pub mod Reading
 pub mod PutLaws
 pub mod AnswerLaws
 pub mod WriteLaws

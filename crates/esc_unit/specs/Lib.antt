@@ -1,5 +1,7 @@
 pub mod Record
 pub mod Whole
+pub mod Reader
+pub mod Fields
 pub mod Answer
 pub mod Put
 pub mod Write
