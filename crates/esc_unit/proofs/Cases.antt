@@ -5,13 +5,13 @@ use Prim.Native.Nat.{ℕ}
 use lib.ListN.{replicate}
 use Rattle.blheli_telemetry.specs.Reply.{accepted, refused}
 use Rattle.blheli_telemetry.specs.BigEndian.{numberAt, bytesOf}
-use Rattle.esc_feedback.specs.declared.output.Lane.the-variants.{Output1}
+use Rattle.esc_feedback.specs.declared.output.Lane.the-variants.{Output1, Output3}
 use Rattle.esc_feedback.specs.declared.request.EscActuatorRequest.{EscActuatorRequest}
 use Rattle.esc_feedback.specs.declared.answer.NextRequest.the-variants as next
 use Rattle.esc_feedback.specs.declared.answer.EscManagerTimeout.the-variants as timeout
 use Rattle.esc_unit.specs.Record.{recordOf, readRecord}
 use Rattle.esc_unit.specs.Answer.{requestBytes, nextBytes, timeoutBytes, bodyBytes, answerBytes}
-use Rattle.esc_unit.specs.declared.record.Record.the-variants.{Open, MarkRequestQueued}
+use Rattle.esc_unit.specs.declared.record.Record.the-variants.{Open, MarkRequestQueued, ActuatorAck}
 use Rattle.esc_unit.specs.declared.answer.Answer.the-variants as answer
 
 -- a record of a kind, with zeros behind it
@@ -35,6 +35,20 @@ pub record RecordCases : Type 0 where
       0)
   -- its 0200000000000000000000000000
   pub queues : readRecord (zeros 0x02 13) ≡ accepted (MarkRequestQueued first 0)
+  -- 03, no two of its fields alike: sequence, lane, started, now
+  pub acknowledges : readRecord
+      (0x03
+      ∷ 0x01 ∷ 0x02 ∷ 0x03 ∷ 0x04
+      ∷ 0x02
+      ∷ 0x11 ∷ 0x12 ∷ 0x13 ∷ 0x14 ∷ 0x15 ∷ 0x16 ∷ 0x17 ∷ 0x18
+      ∷ 0x21 ∷ 0x22 ∷ 0x23 ∷ 0x24 ∷ 0x25 ∷ 0x26 ∷ 0x27 ∷ 0x28
+      ∷ [])
+      ≡ accepted (ActuatorAck
+      (record {
+        request = record { sequence = 0x01020304; output = record { 0 = Output3 } };
+        «started_at_ms» = 0x1112131415161718;
+      })
+      0x2122232425262728)
   pub empty : readRecord [] ≡ refused 4
   pub unknown : readRecord (0x0f ∷ []) ≡ refused 4
   pub short : readRecord (zeros 0x01 7) ≡ refused 5
@@ -47,6 +61,7 @@ record-cases =
     record {
       opens = refl;
       queues = refl;
+      acknowledges = refl;
       empty = refl;
       unknown = refl;
       short = refl;
