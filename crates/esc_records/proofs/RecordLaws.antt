@@ -1,31 +1,27 @@
 -- Reading a record: one law for each number that refuses it, and one for the record that is read.
-use mathlib.Core.Path.{_≡_, refl, ap, _∙_}
+use mathlib.Core.Path.{_≡_, refl}
 use mathlib.Core.Bool.{Bool, true, false}
 use mathlib.Core.List.{List, [], _∷_}
 use Prim.Native.Nat.{ℕ, zero, suc, _<_, _≤_}
 use native.Mathlib.Omega.{arith}
-use lib.Dec.{ltb, ltb→lt}
+use lib.Dec.{eqb, eqb→eq}
 use lib.ListN.{length, getD, replicate}
 use borrow.Author.Tests.{eq-eqb, ne-eqb, le-leb, lt-leb}
+use Rattle.base.specs.Choice.{pick}
 use Rattle.base.specs.Reply.{accepted, refused}
 use Rattle.base.proofs.Table.{at}
 use Rattle.esc_feedback.specs.declared.output.Lane.the-variants.{Output1}
 use Rattle.esc_records.specs.Record.{widthOf, lanePlace, outputOf, knownKind, laneFits, flagFits, recordOf, readRecord}
 use Rattle.esc_records.specs.Whole.{Whole}
+use Rattle.esc_records.proofs.LayoutLaws.{ends-at}
 
--- every kind has at least one byte, and its lane among its bytes: computed for each of the fifteen
-place-before : ℕ → ℕ → Bool
-place-before k _ = ltb (lanePlace k) (widthOf k)
+-- the kinds that have no lane
+laneless : ℕ → ℕ → Bool
+laneless k _ = pick (eqb k 0x02) true (pick (eqb k 0x03) true (pick (eqb k 0x0d) true (pick (eqb k 0x0e) true (eqb (lanePlace k) 0))))
 
-place-within : (k : ℕ) → k ≤ 0x0e → lanePlace k < widthOf k
-unfolding place-before
-place-within k h = ltb→lt (lanePlace k) (widthOf k) (at place-before (replicate 15 0) tt k (omega arith))
-
-pub sized : (s : List ℕ) → Whole s → (k : ℕ) → getD s 0 0 ≡ k → length s ≡ widthOf k
-sized s w k e = w .width ∙ ap widthOf e
-
-pub lane-within : (s : List ℕ) → Whole s → lanePlace (getD s 0 0) < length s
-lane-within s w = rw (w .width) (place-within (getD s 0 0) (w .known))
+pub no-lane : (k : ℕ) → k ≤ 0x0e → (k ≡ 0x02 → ⊥) → (k ≡ 0x03 → ⊥) → (k ≡ 0x0d → ⊥) → (k ≡ 0x0e → ⊥) → lanePlace k ≡ 0
+unfolding laneless
+no-lane k h a b c d = eqb→eq _ 0 (rw (ne-eqb _ _ a, ne-eqb _ _ b, ne-eqb _ _ c, ne-eqb _ _ d) at (at laneless (replicate 15 0) tt k (omega arith)))
 
 -- past the lanes stands the first
 pub else-first : (lane : ℕ) → (lane ≡ 1 → ⊥) → (lane ≡ 2 → ⊥) → (lane ≡ 3 → ⊥) → outputOf lane ≡ record { 0 = Output1 }
@@ -61,7 +57,7 @@ known [] l h = absurd (omega arith)
 known (k ∷ s) l h = le-leb _ _ h
 
 whole-known : (s : List ℕ) → Whole s → knownKind s ≡ true
-whole-known s w = known s (omega (arith, lane-within s w)) (w .known)
+whole-known s w = known s (omega (arith, w .width, ends-at (getD s 0 0) (w .known))) (w .known)
 
 module _ (s : List ℕ) where
   pub read-empty : length s ≡ 0 → readRecord s ≡ refused 4

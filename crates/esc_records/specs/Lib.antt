@@ -1,4 +1,6 @@
--- Read in this order: records with their refusals, what reading a field asks, answers.
+-- Read in this order: records with their refusals; what the reader leaves, the fields of each kind, what reading them asks; answers.
 pub mod Record
+pub mod Reader
+pub mod Fields
 pub mod Whole
 pub mod Answer

@@ -1,4 +1,4 @@
--- A record of a known kind with as many bytes as its kind has: what reading its fields asks.
+-- A record of a known kind with as many bytes as its kind has.
 use Prim.Native.Nat.{ℕ, _≤_}
 use mathlib.Core.Path.{_≡_}
 use mathlib.Core.List.{List}

@@ -1,85 +1,106 @@
-// The fields of a record, each at its type.
+// The fields of a record: one reader goes over its bytes, front to back, and takes them in their order.
 ghost use mathlib.Core.Path.{_≡_};
-ghost use Prim.Native.Nat.{_+_, _≤_};
-ghost use lib.ListN.{length};
-ghost use Rattle.base.specs.BigEndian.{numberAt};
-ghost use Rattle.esc_records.specs.Record.{timeAt, outputOf, requestAt, settingsOf, idleSettingsOf};
-use crate::reader::field;
-use esc_feedback::EscActuatorRequest;
-use esc_feedback::EscManagerConfig;
-use esc_feedback::EscOutput;
-use esc_feedback::Lane;
-use esc_idle::EscIdleQualificationConfig;
+ghost use Rattle.esc_records.specs.Fields.{layoutOf, fieldWidths, widths, Fielded};
+use crate::reader::Reader;
 
-pub(crate) fn time_at(bytes: &[u8], at: usize) -> u64
-    requires { ⌜ at + 8 ≤ length (now bytes) ⌝ }
-    ensures { λ r. ⌜ r ≡ timeAt (now (bytes .entry)) at ⌝ }
-{
-    field(bytes, at, 8)
+pub const LAST_KIND: u64 = 0x0e;
+
+// How many bytes the fields of each kind have: a digit for each field, the first field's first.
+const LAYOUTS: [u32; 15] = [
+    0x4444480,
+    0x8000000,
+    0x4180000,
+    0x4188000,
+    0x8000000,
+    0x1800000,
+    0,
+    0x1800000,
+    0,
+    0,
+    0x2244418,
+    0x8000000,
+    0,
+    0x1000000,
+    0x1000000,
+];
+
+// How many bytes each field has, 0 past the last.
+pub struct Widths {
+    first: usize,
+    second: usize,
+    third: usize,
+    fourth: usize,
+    fifth: usize,
+    sixth: usize,
+    seventh: usize,
 }
 
-pub(crate) fn request_at(bytes: &[u8], at: usize) -> EscActuatorRequest
-    requires { ⌜ at + 5 ≤ length (now bytes) ⌝ }
-    ensures { λ r. ⌜ r ≡ requestAt (now (bytes .entry)) at ⌝ }
+// The kind, the fields in their order, 0 past the last, and the place where they end.
+pub struct Fields {
+    pub(crate) kind: u64,
+    pub(crate) first: u64,
+    pub(crate) second: u64,
+    pub(crate) third: u64,
+    pub(crate) fourth: u64,
+    pub(crate) fifth: u64,
+    pub(crate) sixth: u64,
+    pub(crate) seventh: u64,
+    pub(crate) end: usize,
+}
+
+// What stands in the bytes, whole record or not; a field that they end before is 0.
+pub(crate) fn read_fields(bytes: &[u8]) -> Fields
+    ensures { λ r. ⌜ Fielded (now (bytes .entry)) r ⌝ }
 {
-    EscActuatorRequest {
-        sequence: u32_at(bytes, at),
-        output: output_of(bytes[at + 4]),
+    let mut reader = Reader::new(bytes);
+    let kind = reader.number(1);
+    let widths = field_widths(kind);
+    let first = reader.number(widths.first);
+    let second = reader.number(widths.second);
+    let third = reader.number(widths.third);
+    let fourth = reader.number(widths.fourth);
+    let fifth = reader.number(widths.fifth);
+    let sixth = reader.number(widths.sixth);
+    let seventh = reader.number(widths.seventh);
+    Fields {
+        kind,
+        first,
+        second,
+        third,
+        fourth,
+        fifth,
+        sixth,
+        seventh,
+        end: reader.at,
     }
 }
 
-pub(crate) fn output_of(lane: u8) -> EscOutput
-    ensures { λ r. ⌜ r ≡ outputOf lane ⌝ }
+fn field_widths(kind: u64) -> Widths
+    ensures { λ r. ⌜ r ≡ widths (fieldWidths kind) ⌝ }
 {
-    if lane == 1 {
-        return EscOutput(Lane::Output2);
-    }
-    if lane == 2 {
-        return EscOutput(Lane::Output3);
-    }
-    if lane == 3 {
-        return EscOutput(Lane::Output4);
-    }
-    EscOutput(Lane::Output1)
-}
-
-pub(crate) fn settings_of(bytes: &[u8]) -> EscManagerConfig
-    requires { ⌜ 21 ≤ length (now bytes) ⌝ }
-    ensures { λ r. ⌜ r ≡ settingsOf (now (bytes .entry)) ⌝ }
-{
-    EscManagerConfig {
-        boot_delay_ms: u32_at(bytes, 1),
-        request_period_ms: u32_at(bytes, 5),
-        actuator_ack_timeout_ms: u32_at(bytes, 9),
-        telemetry_response_timeout_ms: u32_at(bytes, 13),
-        recovery_quiet_ms: u32_at(bytes, 17),
+    let digits = layout(kind);
+    Widths {
+        first: digits / 0x1000000 % 16,
+        second: digits / 0x100000 % 16,
+        third: digits / 0x10000 % 16,
+        fourth: digits / 0x1000 % 16,
+        fifth: digits / 0x100 % 16,
+        sixth: digits / 0x10 % 16,
+        seventh: digits % 16,
     }
 }
 
-pub(crate) fn idle_settings_of(bytes: &[u8]) -> EscIdleQualificationConfig
-    requires { ⌜ 18 ≤ length (now bytes) ⌝ }
-    ensures { λ r. ⌜ r ≡ idleSettingsOf (now (bytes .entry)) ⌝ }
+fn layout(kind: u64) -> usize
+    ensures { λ r. ⌜ r ≡ layoutOf kind ⌝ }
 {
-    EscIdleQualificationConfig {
-        min_erpm_div100: u16_at(bytes, 1),
-        max_erpm_div100: u16_at(bytes, 3),
-        spinup_grace_ms: u32_at(bytes, 5),
-        timeout_ms: u32_at(bytes, 9),
-        max_sample_age_ms: u32_at(bytes, 13),
-        required_consecutive_samples: bytes[17],
+    if LAST_KIND < kind {
+        return 0;
     }
+    index(LAYOUTS[kind as usize])
 }
 
-fn u16_at(bytes: &[u8], at: usize) -> u16
-    requires { ⌜ at + 2 ≤ length (now bytes) ⌝ }
-    ensures { λ r. ⌜ r ≡ numberAt 2 (now (bytes .entry)) at ⌝ }
+fn index(digits: u32) -> usize
+    ensures { λ r. ⌜ r ≡ digits ⌝ }
 {
-    field(bytes, at, 2) as u16
-}
-
-fn u32_at(bytes: &[u8], at: usize) -> u32
-    requires { ⌜ at + 4 ≤ length (now bytes) ⌝ }
-    ensures { λ r. ⌜ r ≡ numberAt 4 (now (bytes .entry)) at ⌝ }
-{
-    field(bytes, at, 4) as u32
+    digits as usize
 }

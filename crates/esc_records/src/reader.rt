@@ -1,38 +1,58 @@
-// A record is read by a reader that borrows its bytes and holds the place of the field to read next.
+// A reader borrows the bytes of a record and goes over them, front to back: with each number it moves on.
 ghost use mathlib.Core.Path.{_≡_};
 ghost use Prim.Native.Nat.{_+_, _≤_, _<_, _^_};
 ghost use lib.ListN.{length};
 ghost use Rattle.base.specs.BigEndian.{numberAt};
+ghost use Rattle.esc_records.specs.Reader.{begun, Fits, numberIn, ReadOn};
 
 pub struct Reader<'a> {
     bytes: &'a [u8],
-    at: usize,
+    pub(crate) at: usize,
 }
 
 impl<'a> Reader<'a> {
-    pub(crate) fn new(bytes: &'a [u8], at: usize) -> Reader<'a>
-        ensures { λ r. ⌜ (r .bytes ≡ bytes .entry) × (r .at ≡ at) ⌝ }
+    // In front of the first byte.
+    pub(crate) fn new(bytes: &'a [u8]) -> Reader<'a>
+        ensures { λ r. ⌜ r ≡ begun (bytes .entry) ⌝ }
     {
-        Reader { bytes, at }
+        Reader { bytes, at: 0 }
     }
 
-    pub(crate) fn number(self, width: usize) -> u64
-        requires { ⌜ (self .at + width ≤ length (now (self .bytes))) × (width ≤ 8) ⌝ }
-        ensures { λ n. ⌜ (n ≡ numberAt width (now (self .entry .bytes)) (self .entry .at)) × (n < 256 ^ width) ⌝ }
+    // The number in the next `width` bytes, 0 where the bytes end before; the reader then stands behind them.
+    pub(crate) fn number(&mut self, width: usize) -> u64
+        requires { ⌜ Fits (now self .at) width ⌝ }
+        ensures { λ n. ⌜ ReadOn (now (self .entry)) width (now (self .exit)) n ⌝ }
     {
-        number_at(self.bytes, self.at, width)
+        let at = self.at;
+        self.at = at + width;
+        number_at(self.bytes, at, width)
     }
-}
-
-// The number in `width` bytes, from the place `at` on.
-pub(crate) fn field(bytes: &[u8], at: usize, width: usize) -> u64
-    requires { ⌜ (at + width ≤ length (now bytes)) × (width ≤ 8) ⌝ }
-    ensures { λ n. ⌜ (n ≡ numberAt width (now (bytes .entry)) at) × (n < 256 ^ width) ⌝ }
-{
-    Reader::new(bytes, at).number(width)
 }
 
 fn number_at(bytes: &[u8], at: usize, width: usize) -> u64
+    requires { ⌜ Fits at width ⌝ }
+    ensures { λ n. ⌜ (n ≡ numberIn width (now (bytes .entry)) at) × (n < 256 ^ width) ⌝ }
+{
+    if width == 0 {
+        return 0;
+    }
+    if bytes.len() < at + width {
+        return 0;
+    }
+    // At a width that is written out, the compiler makes one load of the loop.
+    if width == 8 {
+        return spelled(bytes, at, 8);
+    }
+    if width == 4 {
+        return spelled(bytes, at, 4);
+    }
+    if width == 1 {
+        return spelled(bytes, at, 1);
+    }
+    spelled(bytes, at, width)
+}
+
+fn spelled(bytes: &[u8], at: usize, width: usize) -> u64
     requires { ⌜ (at + width ≤ length (now bytes)) × (width ≤ 8) ⌝ }
     ensures { λ n. ⌜ (n ≡ numberAt width (now (bytes .entry)) at) × (n < 256 ^ width) ⌝ }
 {

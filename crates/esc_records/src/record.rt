@@ -1,26 +1,19 @@
 // The records, and how their bytes are read: front to back, the refusals in the order of their numbers.
 ghost use mathlib.Core.Path.{_≡_};
-ghost use Prim.Native.Nat.{_≤_};
-ghost use Rattle.esc_records.specs.Record.{widthOf, lanePlace, laneFits, flagFits, recordOf, readRecord, recordRead};
+ghost use mathlib.Core.List.{List};
+ghost use Prim.Native.Nat.{ℕ};
+ghost use Rattle.esc_records.specs.Record.{outputOf, laneFits, flagFits, recordOf, readRecord, recordRead};
+ghost use Rattle.esc_records.specs.Fields.{Narrow, Found};
 ghost use Rattle.esc_records.specs.Whole.{Whole};
-use crate::fields::idle_settings_of;
-use crate::fields::output_of;
-use crate::fields::request_at;
-use crate::fields::settings_of;
-use crate::fields::time_at;
+use crate::fields::Fields;
+use crate::fields::LAST_KIND;
+use crate::fields::read_fields;
 use esc_feedback::EscActuatorAck;
 use esc_feedback::EscActuatorRequest;
 use esc_feedback::EscManagerConfig;
 use esc_feedback::EscOutput;
+use esc_feedback::Lane;
 use esc_idle::EscIdleQualificationConfig;
-
-const LAST_KIND: u8 = 0x0e;
-
-// How many bytes a record of each kind has, its kind among them.
-const WIDTHS: [u8; 15] = [29, 9, 14, 22, 9, 10, 1, 10, 1, 1, 26, 9, 1, 2, 2];
-
-// Where a record of each kind has its lane, 0 where it has none.
-const LANE_PLACES: [u8; 15] = [0, 0, 5, 5, 0, 0, 0, 0, 0, 0, 0, 0, 0, 1, 1];
 
 pub enum Record {
     // 00
@@ -91,121 +84,137 @@ pub enum RecordRead {
     Flag,
 }
 
-// The record that bytes stand for, or the lowest number that refuses them.
+// The record that the bytes are, or why they are none: 4 to 7, in this order.
 pub fn read_record(bytes: &[u8]) -> RecordRead
     ensures { λ r. ⌜ recordRead r ≡ readRecord (now (bytes .entry)) ⌝ }
 {
     if bytes.len() == 0 {
         return RecordRead::Kind;
     }
-    let kind = bytes[0];
-    if LAST_KIND < kind {
+    let fields = read_fields(bytes);
+    if LAST_KIND < fields.kind {
         return RecordRead::Kind;
     }
-    if bytes.len() != width(kind) {
+    if bytes.len() != fields.end {
         return RecordRead::Length;
     }
-    if !lane_fits(bytes) {
+    if !lane_fits(fields) {
         return RecordRead::Lane;
     }
-    if !flag_fits(bytes) {
+    if !flag_fits(fields) {
         return RecordRead::Flag;
     }
-    RecordRead::Record(record_of(bytes))
+    RecordRead::Record(record_of(fields))
 }
 
-fn width(kind: u8) -> usize
-    requires { ⌜ kind ≤ 0x0e ⌝ }
-    ensures { λ r. ⌜ r ≡ widthOf kind ⌝ }
+fn lane_fits(fields: Fields) -> bool
+    ensures { λ r. ⌜ ((s : List ℕ) → Whole s → Found s fields → r ≡ laneFits s) ⌝ }
 {
-    index(WIDTHS[kind as usize])
+    let kind = fields.kind;
+    match kind {
+        0x02 => fields.second <= 3,
+        0x03 => fields.second <= 3,
+        0x0d => fields.first <= 3,
+        0x0e => fields.first <= 3,
+        _ => true,
+    }
 }
 
-fn lane_place(kind: u8) -> usize
-    requires { ⌜ kind ≤ 0x0e ⌝ }
-    ensures { λ r. ⌜ r ≡ lanePlace kind ⌝ }
+fn flag_fits(fields: Fields) -> bool
+    ensures { λ r. ⌜ ((s : List ℕ) → Whole s → Found s fields → r ≡ flagFits s) ⌝ }
 {
-    index(LANE_PLACES[kind as usize])
-}
-
-fn index(byte: u8) -> usize
-    ensures { λ r. ⌜ r ≡ byte ⌝ }
-{
-    byte as usize
-}
-
-fn lane_fits(bytes: &[u8]) -> bool
-    requires { ⌜ Whole (now bytes) ⌝ }
-    ensures { λ r. ⌜ r ≡ laneFits (now (bytes .entry)) ⌝ }
-{
-    let place = lane_place(bytes[0]);
-    if place == 0 {
+    if fields.kind != 0x07 {
         return true;
     }
-    bytes[place] <= 3
+    fields.first <= 1
 }
 
-fn flag_fits(bytes: &[u8]) -> bool
-    requires { ⌜ Whole (now bytes) ⌝ }
-    ensures { λ r. ⌜ r ≡ flagFits (now (bytes .entry)) ⌝ }
+// The record of its kind, each number at its type.
+fn record_of(fields: Fields) -> Record
+    requires { ⌜ Narrow fields ⌝ }
+    ensures { λ r. ⌜ ((s : List ℕ) → Whole s → Found s fields → r ≡ recordOf s) ⌝ }
 {
-    if bytes[0] != 0x07 {
-        return true;
-    }
-    bytes[1] <= 1
-}
-
-// The record of its kind; no field is out of its range.
-fn record_of(bytes: &[u8]) -> Record
-    requires { ⌜ Whole (now bytes) ⌝ }
-    ensures { λ r. ⌜ r ≡ recordOf (now (bytes .entry)) ⌝ }
-{
-    match bytes[0] {
+    let kind = fields.kind;
+    match kind {
         0x00 => Record::Open {
-            config: settings_of(bytes),
-            boot_started_ms: time_at(bytes, 21),
+            config: EscManagerConfig {
+                boot_delay_ms: fields.first as u32,
+                request_period_ms: fields.second as u32,
+                actuator_ack_timeout_ms: fields.third as u32,
+                telemetry_response_timeout_ms: fields.fourth as u32,
+                recovery_quiet_ms: fields.fifth as u32,
+            },
+            boot_started_ms: fields.sixth,
         },
         0x01 => Record::NextRequest {
-            now_ms: time_at(bytes, 1),
+            now_ms: fields.first,
         },
         0x02 => Record::MarkRequestQueued {
-            request: request_at(bytes, 1),
-            now_ms: time_at(bytes, 6),
+            request: EscActuatorRequest {
+                sequence: fields.first as u32,
+                output: output_of(fields.second),
+            },
+            now_ms: fields.third,
         },
         0x03 => Record::ActuatorAck {
             ack: EscActuatorAck {
-                request: request_at(bytes, 1),
-                started_at_ms: time_at(bytes, 6),
+                request: EscActuatorRequest {
+                    sequence: fields.first as u32,
+                    output: output_of(fields.second),
+                },
+                started_at_ms: fields.third,
             },
-            now_ms: time_at(bytes, 14),
+            now_ms: fields.fourth,
         },
         0x04 => Record::PollTimeout {
-            now_ms: time_at(bytes, 1),
+            now_ms: fields.first,
         },
         0x05 => Record::WireByte {
-            byte: bytes[1],
-            observed_at_ms: time_at(bytes, 2),
+            byte: fields.first as u8,
+            observed_at_ms: fields.second,
         },
         0x06 => Record::WireDiscontinuity,
         0x07 => Record::TryRecover {
-            armed: bytes[1] == 1,
-            now_ms: time_at(bytes, 2),
+            armed: fields.first == 1,
+            now_ms: fields.second,
         },
         0x08 => Record::TakeBackAfterRetries,
         0x09 => Record::RefreshWireStats,
         0x0a => Record::IdleCheck {
-            config: idle_settings_of(bytes),
-            started_at_ms: time_at(bytes, 18),
+            config: EscIdleQualificationConfig {
+                min_erpm_div100: fields.first as u16,
+                max_erpm_div100: fields.second as u16,
+                spinup_grace_ms: fields.third as u32,
+                timeout_ms: fields.fourth as u32,
+                max_sample_age_ms: fields.fifth as u32,
+                required_consecutive_samples: fields.sixth as u8,
+            },
+            started_at_ms: fields.seventh,
         },
         0x0b => Record::IdleStatus {
-            now_ms: time_at(bytes, 1),
+            now_ms: fields.first,
         },
         0x0d => Record::StoredSample {
-            output: output_of(bytes[1]),
+            output: output_of(fields.first),
         },
         0x0e => Record::Figures {
-            output: output_of(bytes[1]),
+            output: output_of(fields.first),
         },
         _ => Record::Report,
     }
+}
+
+fn output_of(lane: u64) -> EscOutput
+    ensures { λ r. ⌜ r ≡ outputOf lane ⌝ }
+{
+    if lane == 1 {
+        return EscOutput(Lane::Output2);
+    }
+    if lane == 2 {
+        return EscOutput(Lane::Output3);
+    }
+    if lane == 3 {
+        return EscOutput(Lane::Output4);
+    }
+    EscOutput(Lane::Output1)
 }

@@ -1,72 +1,64 @@
--- The number of the bytes read so far, one byte a turn.
+-- Each width that the kinds have is the loop at a constant; the bytes that end before give 0.
 use borrow.Author.Needs.{needs}
 use native.Mathlib.Omega.{arith}
-use mathlib.Core.Path.{_≡_, refl}
-use Prim.Native.Nat.{_-_, _^_, _≤_, _<_}
-use Rattle.base.specs.BigEndian.{numberAt}
-use Rattle.base.proofs.NumberLaws.{number-more, below-more, seven-fit}
+use mathlib.Core.Path.{refl, sym}
+use Rattle.esc_records.proofs.ReaderLaws.{in-none, in-short, zero-below, found}
 use Rattle.esc_records.proofs.reader.number_at.Statement.{statement}
 use Rattle.esc_records.proofs.reader.number_at.Tie as tie
 
-abbrev Inv-loop : tie.InvT-loop
-Inv-loop bytes at width number₀ read₀ number read = (read ≤ width) × (number ≡ numberAt read bytes at) × (number < 256 ^ read)
+returns : tie.Need-returns
+returns c = let a = c .before .before .args in (sym (in-none (a .width) (a .bytes .now) (a .at) (c .if1 .taken)), zero-below (a .width))
 
-abbrev μ-loop : tie.MeasureT-loop
-μ-loop bytes at width number₀ read₀ number read = width - read
+add-if2 : tie.Need-add-if2
+add-if2 c = search needs
 
-loop-holds : tie.Need-loop-holds Inv-loop μ-loop
-unfolding numberAt
-loop-holds c = (omega arith, refl, omega arith)
+returns-2 : tie.Need-returns-2
+returns-2 c = let a = c .before .before .before .args in (sym (in-short (a .width) (a .bytes .now) (a .at) (c .if2 .taken)), zero-below (a .width))
 
-mul-number : tie.Need-mul-number Inv-loop μ-loop
-mul-number c = let l = c .before .loop in omega (arith, seven-fit (l .read) (l .number) (omega arith) (l .inv .2))
+spelled-requires : tie.Need-spelled-requires
+spelled-requires c κs = search needs
 
-add-wide : tie.Need-add-wide Inv-loop μ-loop
-add-wide c = omega arith
+returns-3 : tie.Need-returns-3
+returns-3 c =
+    let a = c .before .before .before .before .before .args in
+    found (a .width) 8 (a .bytes .now) (a .at) _ (c .before .if3 .taken) (omega arith) (c .spelled .ensures)
 
-shared-slice-read-wide : tie.Need-shared-slice-read-wide Inv-loop μ-loop
-shared-slice-read-wide c = omega arith
+spelled-requires-2 : tie.Need-spelled-requires-2
+spelled-requires-2 c κs = search needs
 
-wide-requires : tie.Need-wide-requires Inv-loop μ-loop
-wide-requires c κs = search needs
+returns-4 : tie.Need-returns-4
+returns-4 c =
+    let a = c .before .before .before .before .before .before .args in
+    found (a .width) 4 (a .bytes .now) (a .at) _ (c .before .if4 .taken) (omega arith) (c .spelled2 .ensures)
 
-add-number : tie.Need-add-number Inv-loop μ-loop
-add-number c = let l = c .before .before .before .loop in omega (arith, seven-fit (l .read) (l .number) (omega arith) (l .inv .2))
+spelled-requires-3 : tie.Need-spelled-requires-3
+spelled-requires-3 c κs = search needs
 
-add-read : tie.Need-add-read Inv-loop μ-loop
-add-read c = omega arith
+returns-5 : tie.Need-returns-5
+returns-5 c =
+    let a = c .before .before .before .before .before .before .before .args in
+    found (a .width) 1 (a .bytes .now) (a .at) _ (c .before .if5 .taken) (omega arith) (c .spelled3 .ensures)
 
-loop-less : tie.Need-loop-less Inv-loop μ-loop
-loop-less c = omega arith
+spelled-requires-4 : tie.Need-spelled-requires-4
+spelled-requires-4 c κs = search needs
 
-loop-again : tie.Need-loop-again Inv-loop μ-loop
-loop-again c =
-    let l = c .before .before .before .loop in
-    let a = c .before .before .before .before .before .args in (
-      omega arith,
-      rw (c .wide .ensures .0, l .inv .1) (number-more (l .read) (a .bytes .now) (a .at)),
-      below-more (l .read) (l .number) (c .wide .result) (l .inv .2) (c .wide .ensures .1),
-    )
-
-returns : tie.Need-returns Inv-loop μ-loop
-returns c =
-    let l = c .before .loop in
-    let e : l .read ≡ c .before .before .before .args .width = omega arith in
-    rw (← e) (l .inv .1, l .inv .2)
+returns-6 : tie.Need-returns-6
+returns-6 c =
+    let a = c .before .before .before .before .before .before .before .args in
+    found (a .width) (a .width) (a .bytes .now) (a .at) _ refl (omega arith) (c .spelled4 .ensures)
 
 pub number-at-spec : {M : Type 1} → statement M
 number-at-spec =
     tie.close
     (tie.spec
-    Inv-loop
-    μ-loop
-    loop-holds
-    mul-number
-    add-wide
-    shared-slice-read-wide
-    wide-requires
-    add-number
-    add-read
-    loop-less
-    loop-again
-    returns)
+    returns
+    add-if2
+    returns-2
+    spelled-requires
+    returns-3
+    spelled-requires-2
+    returns-4
+    spelled-requires-3
+    returns-5
+    spelled-requires-4
+    returns-6)

@@ -1,8 +1,8 @@
 -- The lanes in their order, and the first past them.
 use mathlib.Core.Path.{sym}
 use Rattle.esc_records.proofs.RecordLaws.{else-first}
-use Rattle.esc_records.proofs.fields.output_of.Statement.{statement}
-use Rattle.esc_records.proofs.fields.output_of.Tie as tie
+use Rattle.esc_records.proofs.record.output_of.Statement.{statement}
+use Rattle.esc_records.proofs.record.output_of.Tie as tie
 
 returns : tie.Need-returns
 returns c = rw (c .if1 .taken)
