@@ -1,20 +1,16 @@
 -- Reading an output lane 0 to 3 from a byte.
 use Prim.Native.Nat.{ℕ}
-use lib.Dec.{eqb}
+use lib.Dec.{leb}
 use Rattle.base.specs.Choice.{pick}
 use Rattle.base.specs.Reply.{Reply, accepted, refused}
+use Rattle.esc_feedback.specs.Output.{outputAt}
 use Rattle.esc_feedback.specs.declared.output.EscOutput.{EscOutput}
-use Rattle.esc_feedback.specs.declared.output.Lane.the-variants.{Output1, Output2, Output3, Output4}
 use Rattle.airframe.specs.declared.lane.OutputRead.{OutputRead}
 use Rattle.airframe.specs.declared.lane.OutputRead.the-variants as read
 
 -- 6 where the byte is above 3
 unfoldable pub readLane : ℕ → Reply EscOutput
-readLane byte =
-    pick (eqb byte 0) (accepted (record { 0 = Output1 }))
-    (pick (eqb byte 1) (accepted (record { 0 = Output2 }))
-    (pick (eqb byte 2) (accepted (record { 0 = Output3 }))
-    (pick (eqb byte 3) (accepted (record { 0 = Output4 })) (refused 6))))
+readLane byte = pick (leb byte 3) (accepted (outputAt byte)) (refused 6)
 
 -- document 01's number and values for each answer
 abbrev pub outputRead : OutputRead → Reply EscOutput

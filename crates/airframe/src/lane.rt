@@ -2,7 +2,6 @@
 ghost use mathlib.Core.Path.{_≡_};
 ghost use Rattle.airframe.specs.Lane.{readLane, outputRead};
 use esc_feedback::EscOutput;
-use esc_feedback::Lane;
 
 pub enum OutputRead {
     Output(EscOutput),
@@ -14,11 +13,8 @@ pub enum OutputRead {
 pub fn output_of_lane(lane: u8) -> OutputRead
     ensures { λ r. ⌜ outputRead r ≡ readLane lane ⌝ }
 {
-    match lane {
-        0 => OutputRead::Output(EscOutput(Lane::Output1)),
-        1 => OutputRead::Output(EscOutput(Lane::Output2)),
-        2 => OutputRead::Output(EscOutput(Lane::Output3)),
-        3 => OutputRead::Output(EscOutput(Lane::Output4)),
-        _ => OutputRead::OutOfRange,
+    if 3 < lane {
+        return OutputRead::OutOfRange;
     }
+    OutputRead::Output(EscOutput::of_index(lane as usize))
 }

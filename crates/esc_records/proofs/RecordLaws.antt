@@ -11,7 +11,7 @@ use Rattle.base.specs.Choice.{pick}
 use Rattle.base.specs.Reply.{accepted, refused}
 use Rattle.base.proofs.Table.{at}
 use Rattle.esc_feedback.specs.declared.output.Lane.the-variants.{Output1}
-use Rattle.esc_records.specs.Record.{widthOf, lanePlace, outputOf, knownKind, laneFits, flagFits, recordOf, readRecord}
+use Rattle.esc_records.specs.Record.{widthOf, lanePlace, knownKind, laneFits, flagFits, recordOf, readRecord}
 use Rattle.esc_records.specs.Whole.{Whole}
 use Rattle.esc_records.proofs.LayoutLaws.{ends-at}
 
@@ -22,14 +22,6 @@ laneless k _ = pick (eqb k 0x02) true (pick (eqb k 0x03) true (pick (eqb k 0x0d)
 pub no-lane : (k : ℕ) → k ≤ 0x0e → (k ≡ 0x02 → ⊥) → (k ≡ 0x03 → ⊥) → (k ≡ 0x0d → ⊥) → (k ≡ 0x0e → ⊥) → lanePlace k ≡ 0
 unfolding laneless
 no-lane k h a b c d = eqb→eq _ 0 (rw (ne-eqb _ _ a, ne-eqb _ _ b, ne-eqb _ _ c, ne-eqb _ _ d) at (at laneless (replicate 15 0) tt k (omega arith)))
-
--- past the lanes stands the first
-pub else-first : (lane : ℕ) → (lane ≡ 1 → ⊥) → (lane ≡ 2 → ⊥) → (lane ≡ 3 → ⊥) → outputOf lane ≡ record { 0 = Output1 }
-else-first zero a b c = refl
-else-first (suc zero) a b c = absurd (a refl)
-else-first (suc (suc zero)) a b c = absurd (b refl)
-else-first (suc (suc (suc zero))) a b c = absurd (c refl)
-else-first (suc (suc (suc (suc n)))) a b c = refl
 
 -- a number that is none of the first n
 abbrev Past : ℕ → ℕ → Type 0

@@ -7,8 +7,7 @@ use lib.ListN.{length, getD}
 use Rattle.base.specs.Choice.{pick}
 use Rattle.base.specs.Reply.{Reply, accepted, refused}
 use Rattle.base.specs.BigEndian.{numberAt}
-use Rattle.esc_feedback.specs.declared.output.EscOutput.{EscOutput}
-use Rattle.esc_feedback.specs.declared.output.Lane.the-variants.{Output1, Output2, Output3, Output4}
+use Rattle.esc_feedback.specs.Output.{outputAt}
 use Rattle.esc_feedback.specs.declared.request.EscActuatorRequest.{EscActuatorRequest}
 use Rattle.esc_feedback.specs.declared.config.EscManagerConfig.{EscManagerConfig}
 use Rattle.esc_idle.specs.declared.idle_config.EscIdleQualificationConfig.{EscIdleQualificationConfig}
@@ -21,17 +20,9 @@ use Rattle.esc_records.specs.declared.record.RecordRead.the-variants as 
 abbrev pub timeAt : List ℕ → ℕ → ℕ
 timeAt s at = numberAt 8 s at
 
--- the lanes 0 to 3
-abbrev pub outputOf : ℕ → EscOutput
-outputOf lane =
-    getD
-    (record { 0 = Output1 } ∷ record { 0 = Output2 } ∷ record { 0 = Output3 } ∷ record { 0 = Output4 } ∷ [])
-    lane
-    (record { 0 = Output1 })
-
 -- S L
 abbrev pub requestAt : List ℕ → ℕ → EscActuatorRequest
-requestAt s at = record { sequence = numberAt 4 s at; output = outputOf (getD s (at + 4) 0) }
+requestAt s at = record { sequence = numberAt 4 s at; output = outputAt (getD s (at + 4) 0) }
 
 -- how many bytes a record of each kind has, its kind among them
 abbrev pub widthOf : ℕ → ℕ
@@ -77,8 +68,8 @@ recordOf s =
     ∷ kind.IdleCheck (idleSettingsOf s) (timeAt s 18)
     ∷ kind.IdleStatus (timeAt s 1)
     ∷ kind.Report
-    ∷ kind.StoredSample (outputOf (getD s 1 0))
-    ∷ kind.Figures (outputOf (getD s 1 0))
+    ∷ kind.StoredSample (outputAt (getD s 1 0))
+    ∷ kind.Figures (outputAt (getD s 1 0))
     ∷ [])
     (getD s 0 0)
     kind.Report

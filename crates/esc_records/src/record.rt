@@ -2,7 +2,8 @@
 ghost use mathlib.Core.Path.{_≡_};
 ghost use mathlib.Core.List.{List};
 ghost use Prim.Native.Nat.{ℕ};
-ghost use Rattle.esc_records.specs.Record.{outputOf, laneFits, flagFits, recordOf, readRecord, recordRead};
+ghost use Rattle.esc_feedback.specs.Output.{outputAt};
+ghost use Rattle.esc_records.specs.Record.{laneFits, flagFits, recordOf, readRecord, recordRead};
 ghost use Rattle.esc_records.specs.Fields.{Narrow, Found};
 ghost use Rattle.esc_records.specs.Whole.{Whole};
 use crate::fields::Fields;
@@ -12,7 +13,6 @@ use esc_feedback::EscActuatorAck;
 use esc_feedback::EscActuatorRequest;
 use esc_feedback::EscManagerConfig;
 use esc_feedback::EscOutput;
-use esc_feedback::Lane;
 use esc_idle::EscIdleQualificationConfig;
 
 pub enum Record {
@@ -205,16 +205,7 @@ fn record_of(fields: Fields) -> Record
 }
 
 fn output_of(lane: u64) -> EscOutput
-    ensures { λ r. ⌜ r ≡ outputOf lane ⌝ }
+    ensures { λ r. ⌜ r ≡ outputAt lane ⌝ }
 {
-    if lane == 1 {
-        return EscOutput(Lane::Output2);
-    }
-    if lane == 2 {
-        return EscOutput(Lane::Output3);
-    }
-    if lane == 3 {
-        return EscOutput(Lane::Output4);
-    }
-    EscOutput(Lane::Output1)
+    EscOutput::of_index(lane as usize)
 }
