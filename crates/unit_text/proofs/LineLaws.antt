@@ -9,8 +9,10 @@ use borrow.Author.Tests.{lt-ltb, le-ltb, le-leb, lt-leb, eq-eqb, ne-eqb}
 use lib.ListN.{length, getD, take, drop, set, drop-of-length-le}
 use lib.Seq.{drop-cons, take-suc-set}
 use Rattle.base.specs.Reply.{accepted, refused}
-use Rattle.unit_text.specs.Digit.{digitOf}
+use Rattle.base.proofs.ByCases.{below-or-not}
+use Rattle.unit_text.specs.Digit.{digitOf, pairOf}
 use Rattle.unit_text.specs.Line.{allDigits, pairs, readLine}
+use Rattle.unit_text.proofs.PairsLaws.{pair-bad}
 
 module _ (line : List ℕ) where
   pub read-wide : 58 < length line → readLine line ≡ refused 1
@@ -56,11 +58,17 @@ module _ (line : List ℕ) (i : ℕ) where
   pub first-bad : i < length line → 16 ≤ digitOf (getD line i 0) → allDigits (drop i line) ≡ false
   first-bad h b = rw (drop-cons line i 0 h) (all-bad (getD line i 0) (drop (suc i) line) b)
 
-  pub second-bad : i + 1 < length line → digitOf (getD line i 0) < 16 → 16 ≤ digitOf (getD line (i + 1) 0)
+  second-bad : i + 1 < length line → digitOf (getD line i 0) < 16 → 16 ≤ digitOf (getD line (i + 1) 0)
       → allDigits (drop i line) ≡ false
   second-bad h g b =
       rw (two-left h)
       (all-good (getD line i 0) (getD line (i + 1) 0 ∷ drop (i + 2) line) g ∙ all-bad (getD line (i + 1) 0) (drop (i + 2) line) b)
+
+  pub two-bad : i + 1 < length line → 256 ≤ pairOf (getD line i 0) (getD line (i + 1) 0) → allDigits (drop i line) ≡ false
+  two-bad h b =
+      below-or-not (digitOf (getD line i 0)) 16
+      (λ g. second-bad h g (pair-bad (getD line i 0) (getD line (i + 1) 0) b g))
+      (λ k. first-bad (omega arith) k)
 
   pub both-good : i + 1 < length line → digitOf (getD line i 0) < 16 → digitOf (getD line (i + 1) 0) < 16
       → allDigits (drop i line) ≡ allDigits (drop (i + 2) line)

@@ -5,9 +5,10 @@ use Prim.Native.Nat.{ℕ, _+_, _*_, _≤_, _<_}
 use native.Mathlib.Omega.{arith}
 use lib.ListN.{length, getD, set, take, drop, length-set, drop-of-length-le}
 use Rattle.base.specs.Reply.{accepted, refused}
-use Rattle.unit_text.specs.Digit.{digitOf}
+use Rattle.unit_text.specs.Digit.{digitOf, pairOf}
 use Rattle.unit_text.specs.Line.{allDigits, pairs, readLine}
-use Rattle.unit_text.proofs.LineLaws.{read-digit, read-half, read-whole, first-bad, second-bad, both-good, last-good, pairs-more}
+use Rattle.unit_text.proofs.LineLaws.{read-digit, read-half, read-whole, first-bad, two-bad, both-good, last-good, pairs-more}
+use Rattle.unit_text.proofs.PairsLaws.{pair-read}
 
 pub record Left (line bytes : List ℕ) (place n : ℕ) : Type 0 where
   pub half : place ≡ 2 * n
@@ -21,20 +22,20 @@ module _ {line bytes : List ℕ} {place n : ℕ} (l : Left line bytes place n) w
   pub left-first : place < length line → 16 ≤ digitOf (getD line place 0) → readLine line ≡ refused 2
   left-first h bad = read-digit line (l .fits) (l .digits ∙ first-bad line place h bad)
 
-  pub left-second : place + 1 < length line → digitOf (getD line place 0) < 16 → 16 ≤ digitOf (getD line (place + 1) 0)
-      → readLine line ≡ refused 2
-  left-second h good bad = read-digit line (l .fits) (l .digits ∙ second-bad line place h good bad)
+  pub left-two : place + 1 < length line → 256 ≤ pairOf (getD line place 0) (getD line (place + 1) 0) → readLine line ≡ refused 2
+  left-two h bad = read-digit line (l .fits) (l .digits ∙ two-bad line place h bad)
 
-  pub left-more : (high low : ℕ) → place + 1 < length line → high ≡ digitOf (getD line place 0) → high < 16
-      → low ≡ digitOf (getD line (place + 1) 0) → low < 16 → Left line (set bytes n (high * 16 + low)) (place + 2) (n + 1)
-  left-more high low h eh gh el gl =
+  pub left-more : (v : ℕ) → place + 1 < length line → v ≡ pairOf (getD line place 0) (getD line (place + 1) 0) → v < 256
+      → Left line (set bytes n v) (place + 2) (n + 1)
+  left-more v h e below =
+      let two = pair-read (getD line place 0) (getD line (place + 1) 0) v e below in
       record {
         half = omega (arith, l .half);
         within = omega arith;
         fits = l .fits;
         room = simp length-set (l .room);
-        digits = l .digits ∙ both-good line place h (omega arith) (omega arith);
-        put = l .put ∙ sym (pairs-more line place bytes n (high * 16 + low) h (omega (arith, l .half, l .fits, l .room)) (rw (eh, el)));
+        digits = l .digits ∙ both-good line place h (two .first) (two .second);
+        put = l .put ∙ sym (pairs-more line place bytes n v h (omega (arith, l .half, l .fits, l .room)) (two .value));
       }
 
   pub left-half : place < length line → length line ≤ place + 1 → digitOf (getD line place 0) < 16 → readLine line ≡ refused 3

@@ -1,16 +1,50 @@
--- Characters two by two: digits, and so no LF; two more at a time; the byte at each place.
+-- Characters two by two: their byte, or that they are not both digits; digits, and so no LF; two more at a time; the byte at each place.
 use mathlib.Core.Path.{_≡_, refl, sym, ap, _∙_}
 use mathlib.Core.Bool.{Bool, true, false, _&&_, false≢true}
 use mathlib.Core.List.{List, [], _∷_, _++_, append-assoc}
-use Prim.Native.Nat.{ℕ, zero, suc, _+_, _*_, _%_, _<_}
+use Prim.Native.Nat.{ℕ, zero, suc, _+_, _*_, _%_, _≤_, _<_}
 use native.Mathlib.Omega.{arith}
 use native.Mathlib.Numerals.{add-one}
-use borrow.Author.Tests.{lt-ltb}
+use borrow.Author.Tests.{lt-ltb, le-ltb}
 use lib.ListN.{length, getD, take}
 use lib.Seq.{take-suc}
-use Rattle.unit_text.specs.Digit.{digitOf, isDigit}
+use Rattle.base.proofs.ByCases.{below-or-not}
+use Rattle.unit_text.specs.Digit.{digitOf, isDigit, pairOf}
 use Rattle.unit_text.specs.Line.{allDigits, pairs}
 use Rattle.unit_text.proofs.LinesLaws.{Unended}
+
+-- two digits and their byte
+pub record TwoDigits (c d v : ℕ) : Type 0 where
+  pub first : digitOf c < 16
+  pub second : digitOf d < 16
+  pub value : v ≡ digitOf c * 16 + digitOf d
+
+module _ (c d : ℕ) where
+  pub pair-both : digitOf c < 16 → digitOf d < 16 → pairOf c d ≡ digitOf c * 16 + digitOf d
+  unfolding pairOf
+  pair-both g k = rw (lt-ltb (digitOf c) 16 g, lt-ltb (digitOf d) 16 k)
+
+  pub pair-none : (digitOf c < 16 → digitOf d < 16 → ⊥) → pairOf c d ≡ 256
+  unfolding pairOf
+  pair-none bad =
+      below-or-not (digitOf c) 16
+      (λ g.
+      below-or-not (digitOf d) 16
+      (λ k. absurd (bad g k))
+      (λ b. rw (lt-ltb (digitOf c) 16 g, le-ltb (digitOf d) 16 b)))
+      (λ b. rw (le-ltb (digitOf c) 16 b))
+
+  pub pair-read : (v : ℕ) → v ≡ pairOf c d → v < 256 → TwoDigits c d v
+  pair-read v e h =
+      below-or-not (digitOf c) 16
+      (λ g.
+      below-or-not (digitOf d) 16
+      (λ k. record { first = g; second = k; value = e ∙ pair-both g k })
+      (λ b. absurd (omega (arith, pair-none (λ g k. omega arith)))))
+      (λ b. absurd (omega (arith, pair-none (λ g k. omega arith))))
+
+  pub pair-bad : 256 ≤ pairOf c d → digitOf c < 16 → 16 ≤ digitOf d
+  pair-bad h g = below-or-not (digitOf d) 16 (λ k. absurd (omega (arith, pair-both g k))) (λ b. b)
 
 both : (a b : Bool) → a && b ≡ true → (a ≡ true) × (b ≡ true)
 both true b e = (refl, e)

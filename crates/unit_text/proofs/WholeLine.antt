@@ -8,14 +8,14 @@ use native.Mathlib.Numerals.{add-one}
 use lib.ListN.{length, getD, take, set, length-set}
 use lib.Seq.{length-take-le, take-suc-set}
 use Rattle.base.specs.Reply.{accepted}
-use Rattle.unit_text.specs.Digit.{digitOf}
+use Rattle.unit_text.specs.Digit.{pairOf}
 use Rattle.unit_text.specs.Line.{allDigits, pairs}
 use Rattle.unit_text.specs.Cut.{firstLine, EndedAt, WholeFrom}
 use Rattle.unit_text.specs.declared.cut.Whole.{Whole}
 use Rattle.unit_text.specs.declared.cut.Whole.the-variants.{Record, Other}
 use Rattle.unit_text.proofs.LineLaws.{read-whole}
 use Rattle.unit_text.proofs.FirstLine.{first-ended}
-use Rattle.unit_text.proofs.PairsLaws.{unended-digits, take-two, digits-more, pairs-two}
+use Rattle.unit_text.proofs.PairsLaws.{pair-read, unended-digits, take-two, digits-more, pairs-two}
 
 -- while a line is read
 pub record Reading (chunk bytes : List ℕ) (place n : ℕ) : Type 0 where
@@ -34,20 +34,21 @@ module _ {chunk bytes : List ℕ} {place n : ℕ} (k : Reading chunk bytes place
   read : length (take place chunk) ≡ place
   read = length-take-le place chunk (k .within)
 
-  pub reading-more : (high low : ℕ) → n < 29 → place + 1 < length chunk → high ≡ digitOf (getD chunk place 0) → high < 16
-      → low ≡ digitOf (getD chunk (place + 1) 0) → low < 16 → Reading chunk (set bytes n (high * 16 + low)) (place + 2) (n + 1)
-  reading-more high low f h eh gh el gl =
+  pub reading-more : (v : ℕ) → n < 29 → place + 1 < length chunk → v ≡ pairOf (getD chunk place 0) (getD chunk (place + 1) 0) → v < 256
+      → Reading chunk (set bytes n v) (place + 2) (n + 1)
+  reading-more v f h e below =
       let c = getD chunk place 0 in
       let d = getD chunk (place + 1) 0 in
+      let two = pair-read c d v e below in
       record {
         half = omega (arith, k .half);
         within = omega arith;
         fits = omega arith;
         room = simp length-set (k .room);
-        digits = digits-more chunk place h (k .digits) (omega arith) (omega arith);
+        digits = digits-more chunk place h (k .digits) (two .first) (two .second);
         put =
-            rw (take-two chunk place h, pairs-two c d (take place chunk) (omega (arith, read, k .half)), k .put, ← eh, ← el, add-one n)
-            (sym (take-suc-set bytes n (high * 16 + low) (omega (arith, k .room))));
+            rw (take-two chunk place h, pairs-two c d (take place chunk) (omega (arith, read, k .half)), k .put, ← two .value, add-one n)
+            (sym (take-suc-set bytes n v (omega (arith, k .room))));
       }
 
   pub reading-ended : (r : Whole) → EndedAt chunk place n r → WholeFrom chunk r bytes

@@ -15,7 +15,7 @@ use Rattle.esc_records.specs.declared.record.Record.the-variants as kind
 use Rattle.base.proofs.NumberLaws.{number-more, below-more}
 use Rattle.esc_records.proofs.RecordLaws.{read-accepted}
 use Rattle.esc_unit.proofs.UnitLaws.{admitted-open}
-use Rattle.unit_text.specs.Digit.{digitOf}
+use Rattle.unit_text.specs.Digit.{digitOf, pairOf}
 use Rattle.unit_text.specs.Line.{lineEnd, allDigits, pairs}
 use Rattle.unit_text.specs.Cut.{firstLine}
 use Rattle.unit_text.specs.Answering.{takenBy}
@@ -24,7 +24,7 @@ use Rattle.unit_text.specs.declared.wire_line.WireLine.{WireLine}
 use Rattle.unit_text.specs.declared.wire_line.WireLine.the-variants as wire
 use Rattle.unit_text.proofs.FirstLine.{first-ended}
 use Rattle.unit_text.proofs.LineLaws.{read-whole}
-use Rattle.unit_text.proofs.PairsLaws.{unended-digits, digits-more, pairs-length, pairs-at}
+use Rattle.unit_text.proofs.PairsLaws.{pair-read, unended-digits, digits-more, pairs-length, pairs-at}
 
 -- ten bytes that begin with 05
 wire-record : (s : List ℕ) → length s ≡ 10 → getD s 0 0 ≡ 0x05 → readRecord s ≡ accepted (kind.WireByte (getD s 1 0) (numberAt 8 s 2))
@@ -53,40 +53,45 @@ module _ (chunk : List ℕ) (long : 20 < length chunk) where
   spelt-at i h =
       rw (pairs-at (take 20 chunk) i (omega (arith, all)), getD-take 20 chunk (2 * i) 0 (omega arith), getD-take 20 chunk (2 * i + 1) 0 (omega arith))
 
-  pub timed-none : getD chunk 0 0 ≡ 0x30 → getD chunk 1 0 ≡ 0x35 → digitOf (getD chunk 2 0) < 16 → digitOf (getD chunk 3 0) < 16 → Timed chunk 0 0
+  pub timed-none : getD chunk 0 0 ≡ 0x30 → getD chunk 1 0 ≡ 0x35 → (v : ℕ) → v ≡ pairOf (getD chunk 2 0) (getD chunk 3 0) → v < 256
+      → Timed chunk 0 0
   unfolding numberAt allDigits digitOf
-  timed-none e f gc gd =
+  timed-none e f v ev below =
+      let kind-digits = digits-more chunk 0 (omega arith) refl (rw e (omega arith)) (rw f (omega arith)) in
+      let two = pair-read (getD chunk 2 0) (getD chunk 3 0) v ev below in
       record {
         within = omega arith;
-        digits = digits-more chunk 2 (omega arith) (digits-more chunk 0 (omega arith) refl (rw e (omega arith)) (rw f (omega arith))) gc gd;
+        digits = digits-more chunk 2 (omega arith) kind-digits (two .first) (two .second);
         time = refl;
         small = omega arith;
       }
 
   module _ {t k : ℕ} (r : Timed chunk t k) where
-    pub timed-more : (upper lower v : ℕ) → k < 8 → upper ≡ digitOf (getD chunk (4 + 2 * k) 0) → upper < 16
-        → lower ≡ digitOf (getD chunk (4 + 2 * k + 1) 0) → lower < 16 → v ≡ upper * 16 + lower → Timed chunk (t * 256 + v) (k + 1)
-    timed-more upper lower v h eu gu el gl ev =
+    pub timed-more : (v : ℕ) → k < 8 → v ≡ pairOf (getD chunk (4 + 2 * k) 0) (getD chunk (4 + 2 * k + 1) 0) → v < 256
+        → Timed chunk (t * 256 + v) (k + 1)
+    timed-more v h e below =
+        let two = pair-read (getD chunk (4 + 2 * k) 0) (getD chunk (4 + 2 * k + 1) 0) v e below in
         let place : 2 * (2 + k) ≡ 4 + 2 * k = omega arith in
         let next : 4 + 2 * (k + 1) ≡ 4 + 2 * k + 2 = omega arith in
-        let byte : getD (spelt chunk) (2 + k) 0 ≡ v = spelt-at (2 + k) (omega arith) ∙ rw (place, ← eu, ← el) (sym ev) in
+        let byte : getD (spelt chunk) (2 + k) 0 ≡ v = spelt-at (2 + k) (omega arith) ∙ rw place (sym (two .value)) in
         record {
           within = omega arith;
-          digits = rw next (digits-more chunk (4 + 2 * k) (omega arith) (r .digits) (omega arith) (omega arith));
+          digits = rw next (digits-more chunk (4 + 2 * k) (omega arith) (r .digits) (two .first) (two .second));
           time = rw (← byte, r .time) (number-more k (spelt chunk) 2);
-          small = below-more k t v (r .small) (omega arith);
+          small = below-more k t v (r .small) below;
         }
 
     pub timed-all : k ≡ 8 → getD chunk 20 0 ≡ lineEnd → getD chunk 0 0 ≡ 0x30 → getD chunk 1 0 ≡ 0x35
-        → (high low : ℕ) → high ≡ digitOf (getD chunk 2 0) → low ≡ digitOf (getD chunk 3 0) → WireFrom chunk (wire.Byte (high * 16 + low) t)
+        → (v : ℕ) → v ≡ pairOf (getD chunk 2 0) (getD chunk 3 0) → v < 256 → WireFrom chunk (wire.Byte v t)
     unfolding digitOf
-    timed-all e lf zero-digit five high low eh el =
+    timed-all e lf zero-digit five v ev below =
+        let two = pair-read (getD chunk 2 0) (getD chunk 3 0) v ev below in
         let digits : allDigits (take 20 chunk) ≡ true = rw e at (r .digits) in
         let line : firstLine chunk ≡ take 20 chunk = first-ended chunk 20 (unended-digits (take 20 chunk) digits) long lf in
         let first : getD (spelt chunk) 0 0 ≡ 0x05 = spelt-at 0 (omega arith) ∙ rw (zero-digit, five) in
-        let second : getD (spelt chunk) 1 0 ≡ high * 16 + low = spelt-at 1 (omega arith) ∙ rw (← eh, ← el) in
+        let second : getD (spelt chunk) 1 0 ≡ v = spelt-at 1 (omega arith) ∙ sym (two .value) in
         let time : numberAt 8 (spelt chunk) 2 ≡ t = rw e at (sym (r .time)) in
-        let record-read : readRecord (spelt chunk) ≡ accepted (kind.WireByte (high * 16 + low) t) =
+        let record-read : readRecord (spelt chunk) ≡ accepted (kind.WireByte v t) =
         wire-record (spelt chunk) (pairs-length (take 20 chunk) 10 all) first ∙ rw (second, time) in
         record { long = long; ends = rw line all; taken = rw line (ap (takenBy true) (read-whole (take 20 chunk) (omega (arith, all)) digits (omega (arith, all))) ∙ admitted-open true (spelt chunk) _ record-read refl) }
 

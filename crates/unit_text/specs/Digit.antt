@@ -1,5 +1,5 @@
 -- The digits of a line (document 01): 0-9 and a-f when it is read, and the same when it is printed.
-use Prim.Native.Nat.{ℕ, _+_, _-_, _<_}
+use Prim.Native.Nat.{ℕ, _+_, _*_, _-_, _<_}
 use mathlib.Core.Path.{_≡_}
 use mathlib.Core.Bool.{Bool, _&&_}
 use mathlib.Core.List.{List}
@@ -16,6 +16,10 @@ digitOf c = pick (between 0x30 c 0x39) (c - 0x30) (pick (between 0x61 c 0x66) (c
 
 abbrev pub isDigit : ℕ → Bool
 isDigit c = ltb (digitOf c) 16
+
+-- the byte of two digits, the high one first, and 256 of two characters that are not both digits
+unfoldable pub pairOf : ℕ → ℕ → ℕ
+pairOf c d = pick (isDigit c && isDigit d) (digitOf c * 16 + digitOf d) 256
 
 -- the digit of a value below 16
 unfoldable pub glyphOf : ℕ → ℕ

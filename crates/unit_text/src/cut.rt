@@ -6,12 +6,12 @@ ghost use Prim.Native.Nat.{_≤_};
 ghost use lib.ListN.{length, take};
 ghost use Rattle.unit_text.specs.Digit.{DigitTabled};
 ghost use Rattle.unit_text.specs.Cut.{Holds, HeldTo, WholeFrom, EndedAt, CutFrom};
-use crate::digit::NO_DIGIT;
 use crate::line::LINE_END;
 use crate::line::LONGEST_RECORD;
 use crate::line::LineRead;
 use crate::line::read_line;
-use crate::line::value;
+use crate::pair::NO_BYTE;
+use crate::pair::pair;
 
 pub(crate) const HELD: usize = 59;
 
@@ -87,12 +87,11 @@ fn whole_line(digits: &[u8; 256], chunk: &[u8], bytes: &mut [u8]) -> Whole
         if chunk.len() - place < 2 {
             return ended(chunk, place, n);
         }
-        let high = value(digits, chunk[place]);
-        let low = value(digits, chunk[place + 1]);
-        if high / NO_DIGIT + low / NO_DIGIT != 0 {
+        let byte = pair(digits, chunk[place], chunk[place + 1]);
+        if NO_BYTE <= byte {
             return ended(chunk, place, n);
         }
-        bytes[n] = high * 16 + low;
+        bytes[n] = byte as u8;
         n += 1;
         place += 2;
     }

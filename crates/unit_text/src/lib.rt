@@ -5,6 +5,7 @@ mod cut;
 mod digit;
 mod hand;
 mod line;
+mod pair;
 mod stream;
 mod whole_session;
 mod wire_line;

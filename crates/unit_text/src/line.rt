@@ -3,10 +3,13 @@ ghost use mathlib.Core.Path.{_≡_};
 ghost use Prim.Native.Nat.{_+_, _*_, _<_, _≤_};
 ghost use lib.ListN.{length};
 ghost use Rattle.base.specs.BigEndian.{overwrite};
-ghost use Rattle.unit_text.specs.Digit.{digitOf, DigitTabled};
+ghost use Rattle.unit_text.specs.Digit.{DigitTabled};
 ghost use Rattle.unit_text.specs.Line.{readLine, printedLine, lineRead, recordLength};
 use crate::digit::NO_DIGIT;
 use crate::digit::glyph;
+use crate::pair::NO_BYTE;
+use crate::pair::pair;
+use crate::pair::value;
 
 pub(crate) const LINE_END: u8 = b'\n';
 
@@ -34,15 +37,11 @@ pub(crate) fn read_line(digits: &[u8; 256], line: &[u8], bytes: &mut [u8]) -> Li
     let mut place: usize = 0;
     let mut n: usize = 0;
     while place + 1 < count {
-        let high = value(digits, line[place]);
-        let low = value(digits, line[place + 1]);
-        if NO_DIGIT <= high {
+        let byte = pair(digits, line[place], line[place + 1]);
+        if NO_BYTE <= byte {
             return LineRead::Refused(2);
         }
-        if NO_DIGIT <= low {
-            return LineRead::Refused(2);
-        }
-        bytes[n] = high * 16 + low;
+        bytes[n] = byte as u8;
         n += 1;
         place += 2;
     }
@@ -53,14 +52,6 @@ pub(crate) fn read_line(digits: &[u8; 256], line: &[u8], bytes: &mut [u8]) -> Li
         return LineRead::Refused(3);
     }
     LineRead::Record(n)
-}
-
-pub(crate) fn value(digits: &[u8; 256], character: u8) -> u8
-    requires { ⌜ DigitTabled (now digits) ⌝ }
-    ensures { λ r. ⌜ r ≡ digitOf character ⌝ }
-{
-    let entry = character as usize;
-    digits[entry]
 }
 
 // Writes bytes as a line of small digits from the place `at` on, and gives the place after it.

@@ -1,11 +1,10 @@
 // A line with a wire byte, as most lines of a session are: it is read straight into its numbers.
 ghost use mathlib.Core.Path.{_≡_};
-ghost use Prim.Native.Nat.{_<_};
 ghost use Rattle.unit_text.specs.Digit.{DigitTabled};
 ghost use Rattle.unit_text.specs.WireLine.{WireFrom, HeldFrom};
-use crate::digit::NO_DIGIT;
 use crate::line::LINE_END;
-use crate::line::value;
+use crate::pair::NO_BYTE;
+use crate::pair::pair;
 use blheli_telemetry::StreamParser;
 
 // How many characters it has: two of the kind, two of the byte, sixteen of the time.
@@ -58,28 +57,20 @@ fn wire_line(digits: &[u8; 256], chunk: &[u8]) -> WireLine
     if chunk[1] != b'5' {
         return WireLine::Other;
     }
-    let high = value(digits, chunk[2]);
-    let low = value(digits, chunk[3]);
-    if high / NO_DIGIT + low / NO_DIGIT != 0 {
+    let byte = pair(digits, chunk[2], chunk[3]);
+    if NO_BYTE <= byte {
         return WireLine::Other;
     }
     let mut at_ms: u64 = 0;
     let mut read: usize = 0;
     while read < 8 {
         let place = 4 + 2 * read;
-        let upper = value(digits, chunk[place]);
-        let lower = value(digits, chunk[place + 1]);
-        if upper / NO_DIGIT + lower / NO_DIGIT != 0 {
+        let next = pair(digits, chunk[place], chunk[place + 1]);
+        if NO_BYTE <= next {
             return WireLine::Other;
         }
-        at_ms = at_ms * 256 + wide(upper * 16 + lower);
+        at_ms = at_ms * 256 + next;
         read += 1;
     }
-    WireLine::Byte(high * 16 + low, at_ms)
-}
-
-fn wide(byte: u8) -> u64
-    ensures { λ r. ⌜ (r ≡ byte) × (r < 256) ⌝ }
-{
-    byte as u64
+    WireLine::Byte(byte as u8, at_ms)
 }

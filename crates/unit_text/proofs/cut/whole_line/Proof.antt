@@ -27,23 +27,17 @@ same-length c = search needs
 returns : tie.Need-returns Inv-loop μ-loop
 returns c = reading-ended (c .before .before .before .loop .inv) (c .ended .result) (c .ended .ensures)
 
-shared-slice-read-value : tie.Need-shared-slice-read-value Inv-loop μ-loop
-shared-slice-read-value c = search needs
+shared-slice-read-pair : tie.Need-shared-slice-read-pair Inv-loop μ-loop
+shared-slice-read-pair c = search needs
 
-value-requires : tie.Need-value-requires Inv-loop μ-loop
-value-requires c κs = c .before .before .before .before .before .before .pre .0
+add-pair : tie.Need-add-pair Inv-loop μ-loop
+add-pair c = search needs
 
-add-value : tie.Need-add-value Inv-loop μ-loop
-add-value c = search needs
+shared-slice-read-pair-2 : tie.Need-shared-slice-read-pair-2 Inv-loop μ-loop
+shared-slice-read-pair-2 c = search needs
 
-shared-slice-read-value-2 : tie.Need-shared-slice-read-value-2 Inv-loop μ-loop
-shared-slice-read-value-2 c = search needs
-
-value-requires-2 : tie.Need-value-requires-2 Inv-loop μ-loop
-value-requires-2 c κs = c .before .before .before .before .before .before .before .before .pre .0
-
-add-if2 : tie.Need-add-if2 Inv-loop μ-loop
-add-if2 c = search needs
+pair-requires : tie.Need-pair-requires Inv-loop μ-loop
+pair-requires c κs = search needs
 
 ended-requires-2 : tie.Need-ended-requires-2 Inv-loop μ-loop
 ended-requires-2 c κs = search needs
@@ -52,13 +46,10 @@ same-length-2 : tie.Need-same-length-2 Inv-loop μ-loop
 same-length-2 c = search needs
 
 returns-2 : tie.Need-returns-2 Inv-loop μ-loop
-returns-2 c = reading-ended (c .before .before .before .before .before .before .before .before .loop .inv) (c .ended2 .result) (c .ended2 .ensures)
+returns-2 c = reading-ended (c .before .before .before .before .before .before .before .loop .inv) (c .ended2 .result) (c .ended2 .ensures)
 
-mul-bytes : tie.Need-mul-bytes Inv-loop μ-loop
-mul-bytes c = search needs
-
-add-bytes : tie.Need-add-bytes Inv-loop μ-loop
-add-bytes c = search needs
+cast-bytes : tie.Need-cast-bytes Inv-loop μ-loop
+cast-bytes c = search needs
 
 slice-write-bytes : tie.Need-slice-write-bytes Inv-loop μ-loop
 slice-write-bytes c = search needs
@@ -74,10 +65,9 @@ loop-less c = search needs
 
 loop-again : tie.Need-loop-again Inv-loop μ-loop
 loop-again c =
-    let l = c .before .before .before .before .before .before .before .loop in
-    let high = c .before .before .before .value in
-    let low = c .before .value2 in
-    reading-more (l .inv) (high .result) (low .result) (omega arith) (omega (arith, l .inv .within)) (high .ensures) (omega (arith, c .if2 .left)) (low .ensures) (omega (arith, c .if2 .left))
+    let l = c .before .before .before .before .before .before .loop in
+    let byte = c .before .pair in
+    reading-more (l .inv) (byte .result) (omega arith) (omega (arith, l .inv .within)) (byte .ensures) (c .if2 .left)
 
 ended-requires-3 : tie.Need-ended-requires-3 Inv-loop μ-loop
 ended-requires-3 c κs = search needs
@@ -99,17 +89,14 @@ whole-line-spec =
     ended-requires
     same-length
     returns
-    shared-slice-read-value
-    value-requires
-    add-value
-    shared-slice-read-value-2
-    value-requires-2
-    add-if2
+    shared-slice-read-pair
+    add-pair
+    shared-slice-read-pair-2
+    pair-requires
     ended-requires-2
     same-length-2
     returns-2
-    mul-bytes
-    add-bytes
+    cast-bytes
     slice-write-bytes
     add-n
     add-place

@@ -8,10 +8,10 @@ use Rattle.unit_text.proofs.wire_line.wire_line.Statement.{statement}
 use Rattle.unit_text.proofs.wire_line.wire_line.Tie as tie
 
 abbrev Inv-loop : tie.InvT-loop
-Inv-loop digits chunk high low at-ms₀ read₀ at-ms read = Timed chunk at-ms read
+Inv-loop digits chunk byte at-ms₀ read₀ at-ms read = Timed chunk at-ms read
 
 abbrev μ-loop : tie.MeasureT-loop
-μ-loop digits chunk high low at-ms₀ read₀ at-ms read = 8 - read
+μ-loop digits chunk byte at-ms₀ read₀ at-ms read = 8 - read
 
 returns : tie.Need-returns Inv-loop μ-loop
 returns c = search needs
@@ -34,29 +34,23 @@ shared-slice-read-if4 c = search needs
 returns-4 : tie.Need-returns-4 Inv-loop μ-loop
 returns-4 c = search needs
 
-shared-slice-read-value : tie.Need-shared-slice-read-value Inv-loop μ-loop
-shared-slice-read-value c = search needs
+shared-slice-read-pair : tie.Need-shared-slice-read-pair Inv-loop μ-loop
+shared-slice-read-pair c = search needs
 
-value-requires : tie.Need-value-requires Inv-loop μ-loop
-value-requires c κs = c .before .before .before .before .before .before .before .before .before .pre
+shared-slice-read-pair-2 : tie.Need-shared-slice-read-pair-2 Inv-loop μ-loop
+shared-slice-read-pair-2 c = search needs
 
-shared-slice-read-value-2 : tie.Need-shared-slice-read-value-2 Inv-loop μ-loop
-shared-slice-read-value-2 c = search needs
-
-value-requires-2 : tie.Need-value-requires-2 Inv-loop μ-loop
-value-requires-2 c κs = c .before .before .before .before .before .before .before .before .before .before .before .pre
-
-add-if5 : tie.Need-add-if5 Inv-loop μ-loop
-add-if5 c = search needs
+pair-requires : tie.Need-pair-requires Inv-loop μ-loop
+pair-requires c κs = search needs
 
 returns-5 : tie.Need-returns-5 Inv-loop μ-loop
 returns-5 c = search needs
 
 loop-holds : tie.Need-loop-holds Inv-loop μ-loop
 loop-holds c =
-    let high = c .before .before .before .value in
-    let low = c .before .value2 in
-    timed-none _ (c .before .before .before .before .before .before .before .before .before .before .before .if1 .left) (c .before .before .before .before .before .before .before .if3 .left) (c .before .before .before .before .before .if4 .left) (omega (arith, high .ensures, c .if5 .left)) (omega (arith, low .ensures, c .if5 .left))
+    let byte = c .before .pair in
+    let long = c .before .before .before .before .before .before .before .before .before .before .if1 .left in
+    timed-none _ long (c .before .before .before .before .before .before .if3 .left) (c .before .before .before .before .if4 .left) (byte .result) (byte .ensures) (c .if5 .left)
 
 mul-place : tie.Need-mul-place Inv-loop μ-loop
 mul-place c = search needs
@@ -64,41 +58,30 @@ mul-place c = search needs
 add-place : tie.Need-add-place Inv-loop μ-loop
 add-place c = search needs
 
-shared-slice-read-value-3 : tie.Need-shared-slice-read-value-3 Inv-loop μ-loop
-shared-slice-read-value-3 c = search needs
+shared-slice-read-pair-3 : tie.Need-shared-slice-read-pair-3 Inv-loop μ-loop
+shared-slice-read-pair-3 c = search needs
 
-value-requires-3 : tie.Need-value-requires-3 Inv-loop μ-loop
-value-requires-3 c κs = c .before .before .before .before .before .before .before .before .before .before .before .before .before .before .before .before .pre
+add-pair : tie.Need-add-pair Inv-loop μ-loop
+add-pair c = search needs
 
-add-value : tie.Need-add-value Inv-loop μ-loop
-add-value c = search needs
+shared-slice-read-pair-4 : tie.Need-shared-slice-read-pair-4 Inv-loop μ-loop
+shared-slice-read-pair-4 c = search needs
 
-shared-slice-read-value-4 : tie.Need-shared-slice-read-value-4 Inv-loop μ-loop
-shared-slice-read-value-4 c = search needs
-
-value-requires-4 : tie.Need-value-requires-4 Inv-loop μ-loop
-value-requires-4 c κs = c .before .before .before .before .before .before .before .before .before .before .before .before .before .before .before .before .before .before .pre
-
-add-if6 : tie.Need-add-if6 Inv-loop μ-loop
-add-if6 c = search needs
+pair-requires-2 : tie.Need-pair-requires-2 Inv-loop μ-loop
+pair-requires-2 c κs = search needs
 
 returns-6 : tie.Need-returns-6 Inv-loop μ-loop
 returns-6 c = search needs
 
 mul-at-ms : tie.Need-mul-at-ms Inv-loop μ-loop
-mul-at-ms c = let l = c .before .before .before .before .before .before .loop in omega (arith, seven-fit (l .read) (l .at-ms) (omega arith) (l .inv .small))
-
-mul-wide : tie.Need-mul-wide Inv-loop μ-loop
-mul-wide c = search needs
-
-add-wide : tie.Need-add-wide Inv-loop μ-loop
-add-wide c = search needs
-
-wide-requires : tie.Need-wide-requires Inv-loop μ-loop
-wide-requires c κs = search needs
+mul-at-ms c =
+    let l = c .before .before .before .before .before .loop in
+    omega (arith, seven-fit (l .read) (l .at-ms) (omega arith) (l .inv .small))
 
 add-at-ms : tie.Need-add-at-ms Inv-loop μ-loop
-add-at-ms c = let l = c .before .before .before .before .before .before .before .loop in omega (arith, seven-fit (l .read) (l .at-ms) (omega arith) (l .inv .small), c .wide .ensures .1)
+add-at-ms c =
+    let l = c .before .before .before .before .before .loop in
+    omega (arith, seven-fit (l .read) (l .at-ms) (omega arith) (l .inv .small), c .if6 .left)
 
 add-read : tie.Need-add-read Inv-loop μ-loop
 add-read c = search needs
@@ -108,23 +91,23 @@ loop-less c = search needs
 
 loop-again : tie.Need-loop-again Inv-loop μ-loop
 loop-again c =
-    let l = c .before .before .before .before .before .before .before .loop in
-    let upper = c .before .before .before .before .value3 in
-    let lower = c .before .before .value4 in
-    timed-more _ (c .before .before .before .before .before .before .before .before .before .before .before .before .before .before .before .before .before .before .before .if1 .left) (l .inv) (upper .result) (lower .result) (c .wide .result) (omega arith) (upper .ensures) (omega (arith, c .before .if6 .left)) (lower .ensures) (omega (arith, c .before .if6 .left)) (c .wide .ensures .0)
+    let l = c .before .before .before .before .before .loop in
+    let next = c .before .pair2 in
+    let long = c .before .before .before .before .before .before .before .before .before .before .before .before .before .before .before .before .if1 .left in
+    timed-more _ long (l .inv) (next .result) (omega arith) (next .ensures) (c .if6 .left)
 
-mul-t13 : tie.Need-mul-t13 Inv-loop μ-loop
-mul-t13 c = search needs
-
-add-t18 : tie.Need-add-t18 Inv-loop μ-loop
-add-t18 c = search needs
+cast-t16 : tie.Need-cast-t16 Inv-loop μ-loop
+cast-t16 c = search needs
 
 returns-7 : tie.Need-returns-7 Inv-loop μ-loop
 returns-7 c =
     let l = c .before .loop in
-    let high = c .before .before .before .before .before .value in
-    let low = c .before .before .before .value2 in
-    timed-all _ (c .before .before .before .before .before .before .before .before .before .before .before .before .before .if1 .left) (l .inv) (omega (arith, l .inv .within)) (c .before .before .before .before .before .before .before .before .before .before .before .if2 .left) (c .before .before .before .before .before .before .before .before .before .if3 .left) (c .before .before .before .before .before .before .before .if4 .left) (high .result) (low .result) (high .ensures) (low .ensures)
+    let byte = c .before .before .before .pair in
+    let long = c .before .before .before .before .before .before .before .before .before .before .before .before .if1 .left in
+    let lf = c .before .before .before .before .before .before .before .before .before .before .if2 .left in
+    let zero-digit = c .before .before .before .before .before .before .before .before .if3 .left in
+    let five = c .before .before .before .before .before .before .if4 .left in
+    timed-all _ long (l .inv) (omega (arith, l .inv .within)) lf zero-digit five (byte .result) (byte .ensures) (c .before .before .if5 .left)
 
 pub wire-line-spec : {M : Type 1} → statement M
 wire-line-spec =
@@ -139,30 +122,22 @@ wire-line-spec =
     returns-3
     shared-slice-read-if4
     returns-4
-    shared-slice-read-value
-    value-requires
-    shared-slice-read-value-2
-    value-requires-2
-    add-if5
+    shared-slice-read-pair
+    shared-slice-read-pair-2
+    pair-requires
     returns-5
     loop-holds
     mul-place
     add-place
-    shared-slice-read-value-3
-    value-requires-3
-    add-value
-    shared-slice-read-value-4
-    value-requires-4
-    add-if6
+    shared-slice-read-pair-3
+    add-pair
+    shared-slice-read-pair-4
+    pair-requires-2
     returns-6
     mul-at-ms
-    mul-wide
-    add-wide
-    wide-requires
     add-at-ms
     add-read
     loop-less
     loop-again
-    mul-t13
-    add-t18
+    cast-t16
     returns-7)

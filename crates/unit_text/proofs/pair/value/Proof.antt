@@ -1,7 +1,7 @@
 -- The table's rule holds at every character.
 use borrow.Author.Needs.{needs}
-use Rattle.unit_text.proofs.line.value.Statement.{statement}
-use Rattle.unit_text.proofs.line.value.Tie as tie
+use Rattle.unit_text.proofs.pair.value.Statement.{statement}
+use Rattle.unit_text.proofs.pair.value.Tie as tie
 
 element-copy-out-result : tie.Need-element-copy-out-result
 element-copy-out-result c = search needs
