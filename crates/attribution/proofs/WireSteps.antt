@@ -9,7 +9,6 @@ use Rattle.booking.specs.History.{Timed, Byte, Past}
 use Rattle.booking.specs.Wire.{OnWire, byte, cut, wire, latest, frameAt}
 use Rattle.booking.specs.Booking.{latestFrame}
 use Rattle.attribution.specs.Marks.{LogEntry}
-use Rattle.attribution.specs.Origin.{requests}
 use Rattle.attribution.proofs.Latest.{Clean, latest-none}
 
 -- without a byte, a wire is as it was or cut

@@ -2,7 +2,7 @@
 use mathlib.Core.Path.{_≡_, refl, _∙_, ap}
 use mathlib.Core.List.{List, _∷_}
 use mathlib.Core.Option.{Option, none, some}
-use mathlib.Core.Bool.{Bool, true, false, not, _&&_, false≢true}
+use mathlib.Core.Bool.{Bool, true, false, not, _&&_}
 use Prim.Native.Nat.{ℕ}
 use lib.Dec.{eqb}
 use borrow.Author.Tests.{eqb-true}
@@ -18,7 +18,7 @@ use Rattle.esc_feedback.specs.declared.output.Lane.{Lane}
 use Rattle.esc_feedback.specs.declared.output.Lane.the-variants.{Output1, Output2, Output3, Output4}
 use Rattle.esc_feedback.specs.declared.answer.NextRequest.the-variants as next
 use Rattle.esc_feedback.specs.Fault.{quietWindow, mayRecover}
-use Rattle.esc_feedback.specs.Manager.{closedBySample, takeBack}
+use Rattle.esc_feedback.specs.Manager.{takeBack}
 use Rattle.esc_feedback.specs.Queueing.{requestExists, nextRequest, markQueued}
 use Rattle.esc_feedback.specs.Ack.{ackOn, onAck}
 use Rattle.esc_feedback.specs.Timeout.{polledOn, pollTimeout}

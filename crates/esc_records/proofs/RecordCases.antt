@@ -2,8 +2,7 @@
 -- equal, and each refusal of reading.
 use mathlib.Core.Path.{_≡_, refl}
 use mathlib.Core.Bool.{true, false}
-use mathlib.Core.List.{List, [], _∷_, _++_}
-use Prim.Native.Nat.{ℕ}
+use mathlib.Core.List.{[], _∷_, _++_}
 use Rattle.base.specs.Reply.{accepted, refused}
 use Rattle.base.specs.BigEndian.{numberAt}
 use Rattle.esc_feedback.specs.declared.output.Lane.{Lane}

@@ -10,7 +10,6 @@ use borrow.Author.Tests.{eq-eqb, ne-eqb, le-leb, lt-leb}
 use Rattle.base.specs.Choice.{pick}
 use Rattle.base.specs.Reply.{accepted, refused}
 use Rattle.base.proofs.Table.{at}
-use Rattle.esc_feedback.specs.declared.output.Lane.the-variants.{Output1}
 use Rattle.esc_records.specs.Record.{widthOf, lanePlace, knownKind, laneFits, flagFits, recordOf, readRecord}
 use Rattle.esc_records.specs.Whole.{Whole}
 use Rattle.esc_records.proofs.LayoutLaws.{ends-at}

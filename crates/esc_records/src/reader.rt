@@ -4,6 +4,7 @@ ghost use Prim.Native.Nat.{_+_, _≤_, _<_, _^_};
 ghost use lib.ListN.{length};
 ghost use Rattle.base.specs.BigEndian.{numberAt};
 ghost use Rattle.esc_records.specs.Reader.{begun, Fits, numberIn, ReadOn};
+use base::wide;
 
 pub struct Reader<'a> {
     bytes: &'a [u8],
@@ -63,10 +64,4 @@ fn spelled(bytes: &[u8], at: usize, width: usize) -> u64
         read += 1;
     }
     number
-}
-
-fn wide(byte: u8) -> u64
-    ensures { λ r. ⌜ (r ≡ byte) × (r < 256) ⌝ }
-{
-    byte as u64
 }

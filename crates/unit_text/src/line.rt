@@ -1,6 +1,6 @@
 // A line of hexadecimal characters and the bytes that it stands for.
 ghost use mathlib.Core.Path.{_≡_};
-ghost use Prim.Native.Nat.{_+_, _*_, _<_, _≤_};
+ghost use Prim.Native.Nat.{_+_, _*_, _≤_};
 ghost use lib.ListN.{length};
 ghost use Rattle.base.specs.BigEndian.{overwrite};
 ghost use Rattle.unit_text.specs.Digit.{DigitTabled};

@@ -1,5 +1,4 @@
 // A line with a wire byte, as most lines of a session are: it is read straight into its numbers.
-ghost use mathlib.Core.Path.{_≡_};
 ghost use Rattle.unit_text.specs.Digit.{DigitTabled};
 ghost use Rattle.unit_text.specs.WireLine.{WireFrom, HeldFrom};
 use crate::line::LINE_END;

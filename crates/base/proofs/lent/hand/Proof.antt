@@ -1,7 +1,7 @@
 -- The bytes are copied where they fit.
 use borrow.Author.Needs.{needs}
 use native.Mathlib.Omega.{arith}
-use mathlib.Core.Path.{_≡_, sym, ap, _∙_}
+use mathlib.Core.Path.{sym, ap, _∙_}
 use Prim.Native.Nat.{_≤_}
 use lib.ListN.{length, take, length-take}
 use Rattle.base.specs.Reply.{accepted}

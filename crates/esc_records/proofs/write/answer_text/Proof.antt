@@ -6,7 +6,7 @@ use lib.ListN.{length, take}
 use Rattle.base.proofs.BigEndianLaws.{overwrite-front}
 use Rattle.base.proofs.PutLaws.{put-then}
 use Rattle.esc_records.specs.Answer.{answerBytes}
-use Rattle.esc_records.proofs.AnswerLaws.{body-at-most, answer-length}
+use Rattle.esc_records.proofs.AnswerLaws.{body-at-most}
 use Rattle.esc_records.proofs.write.answer_text.Statement.{statement}
 use Rattle.esc_records.proofs.write.answer_text.Tie as tie
 
