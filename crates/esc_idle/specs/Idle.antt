@@ -46,6 +46,11 @@ abbrev pub unlessTerminal : EscIdleQualification → EscIdleJudged → Terminal 
 unlessTerminal q found (Some s) = saying q s
 unlessTerminal q found None = pick (validSettings (q .config)) found (decided q (Failed InvalidConfig))
 
+-- the verdict that stands whatever the call finds
+abbrev pub standing : EscIdleQualification → Terminal → Terminal
+standing q (Some s) = Some s
+standing q None = pick (validSettings (q .config)) None (Some (Failed InvalidConfig))
+
 -- the four counts
 abbrev pub countsOf : List IdleLane → List ℕ
 countsOf ls = countOf ls 0 ∷ countOf ls 1 ∷ countOf ls 2 ∷ countOf ls 3 ∷ []

@@ -1,7 +1,7 @@
 // The idle check: every motor turns within limits, steadily, before arming goes on. A terminal
 // verdict stays.
 ghost use mathlib.Core.Path.{_≡_};
-ghost use Rattle.esc_idle.specs.Idle.{newIdle, observeOf, statusOf, countsOf, measured, sampled, freshAt, weighed, decided};
+ghost use Rattle.esc_idle.specs.Idle.{standing, newIdle, observeOf, statusOf, countsOf, measured, sampled, freshAt, weighed, decided};
 use crate::idle_config::EscIdleQualificationConfig;
 use crate::idle_lane::IdleLane;
 use crate::idle_lane::every_lane_has;
@@ -48,16 +48,11 @@ impl EscIdleQualification {
     pub fn observe(self, update: EscTelemetryUpdate, now_ms: u64) -> EscIdleJudged
         ensures { λ r. ⌜ r ≡ observeOf self update «now_ms» ⌝ }
     {
-        let verdict = self.verdict;
-        let terminal = verdict.terminal;
-        if let Terminal::Some(status) = terminal {
-            return EscIdleJudged { idle: self, status };
+        let standing = self.standing();
+        if let Terminal::Some(status) = standing {
+            return self.decide(status);
         }
-        let config = self.config;
-        if !config.is_valid() {
-            return self.fail(EscIdleQualificationFailure::InvalidConfig);
-        }
-        if !elapsed_at_least(self.started_at_ms, now_ms, config.spinup_grace_ms) {
+        if !elapsed_at_least(self.started_at_ms, now_ms, self.config.spinup_grace_ms) {
             return EscIdleJudged {
                 idle: self,
                 status: EscIdleQualificationStatus::Pending,
@@ -70,14 +65,9 @@ impl EscIdleQualification {
     pub fn status(self, now_ms: u64) -> EscIdleJudged
         ensures { λ r. ⌜ r ≡ statusOf self «now_ms» ⌝ }
     {
-        let verdict = self.verdict;
-        let terminal = verdict.terminal;
-        if let Terminal::Some(status) = terminal {
-            return EscIdleJudged { idle: self, status };
-        }
-        let config = self.config;
-        if !config.is_valid() {
-            return self.fail(EscIdleQualificationFailure::InvalidConfig);
+        let standing = self.standing();
+        if let Terminal::Some(status) = standing {
+            return self.decide(status);
         }
         let idle = self.fresh_at(now_ms);
         idle.weighed(now_ms)
@@ -94,6 +84,24 @@ impl EscIdleQualification {
             lanes[2].consecutive_samples,
             lanes[3].consecutive_samples,
         ]
+    }
+
+    // The verdict that stands whatever comes: a terminal one stays, and invalid settings fail first.
+    fn standing(self) -> Terminal
+        ensures { λ r. ⌜ r ≡ standing self (self .verdict .terminal) ⌝ }
+    {
+        let verdict = self.verdict;
+        let terminal = verdict.terminal;
+        if let Terminal::Some(status) = terminal {
+            return Terminal::Some(status);
+        }
+        let config = self.config;
+        if config.is_valid() {
+            return Terminal::None;
+        }
+        Terminal::Some(EscIdleQualificationStatus::Failed(
+            EscIdleQualificationFailure::InvalidConfig,
+        ))
     }
 
     // The answer to a sample that is not ignored.
