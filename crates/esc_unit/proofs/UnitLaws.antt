@@ -36,16 +36,9 @@ module _ (opened : Bool) (s : List ℕ) where
   unfolding admittedOf
   admitted-unread n e = ap (admittedOn opened) e
 
-  admitted-read : (r : Record) (b : Bool) → readRecord s ≡ accepted r → opened || opens r ≡ b → admittedOf opened s ≡ pick b (accepted r) (refused 8)
+  pub admitted-read : (r : Record) (b : Bool) → readRecord s ≡ accepted r → opened || opens r ≡ b → admittedOf opened s ≡ pick b (accepted r) (refused 8)
   unfolding admittedOf
   admitted-read r b e t = ap (admittedOn opened) e ∙ ap (λ (x : Bool). pick x (accepted r) (refused 8)) t
-
-  pub admitted-open : (r : Record) → readRecord s ≡ accepted r → opened ≡ true → admittedOf opened s ≡ accepted r
-  admitted-open r e o = admitted-read r true e (ap (λ (x : Bool). x || opens r) o)
-
-  pub admitted-shut : (r : Record) (b : Bool) → readRecord s ≡ accepted r → opened ≡ false → opens r ≡ b
-      → admittedOf opened s ≡ pick b (accepted r) (refused 8)
-  admitted-shut r b e o t = admitted-read r b e (ap (λ (x : Bool). x || opens r) o ∙ t)
 
 -- a call is its record's admission, and then its answer
 pub call-admission : (u : Unit) (s : List ℕ) (room : ℕ) → callOf u s room ≡ onAdmitted u room (admittedOf (u .opened) s)

@@ -68,7 +68,7 @@ impl Unit {
     pub fn step(self, record: Record) -> UnitStepped
         ensures { λ r. ⌜ stepReplied r ≡ enter self «record» ⌝ }
     {
-        if !self.takes(record) {
+        if !takes(self.opened, record) {
             return UnitStepped {
                 unit: self,
                 reply: StepReply::Unopened,
@@ -81,16 +81,6 @@ impl Unit {
             unit,
             reply: StepReply::Answer(answer),
         }
-    }
-
-    // Whether the unit is open, or the record opens it.
-    fn takes(self, record: Record) -> bool
-        ensures { λ r. ⌜ r ≡ (self .opened || opens «record») ⌝ }
-    {
-        if self.opened {
-            return true;
-        }
-        opens(record)
     }
 
     // What each kind of record does, 00 to 0e: the manager has it first, then the books what is left.
@@ -118,8 +108,18 @@ impl Unit {
     }
 }
 
+// Whether a record is taken: the unit is open, or the record opens it.
+pub(crate) fn takes(opened: bool, record: Record) -> bool
+    ensures { λ r. ⌜ r ≡ (opened || opens «record») ⌝ }
+{
+    if opened {
+        return true;
+    }
+    opens(record)
+}
+
 // Whether it is a 00.
-pub(crate) fn opens(record: Record) -> bool
+fn opens(record: Record) -> bool
     ensures { λ r. ⌜ r ≡ opens «record» ⌝ }
 {
     if let Record::Open {

@@ -1,7 +1,7 @@
 // Whether a record is taken: the refusals 4 to 8, in the order of their numbers.
 ghost use mathlib.Core.Path.{_≡_};
 ghost use Rattle.esc_unit.specs.Admission.{admittedOf, admitted};
-use crate::unit::opens;
+use crate::unit::takes;
 use esc_records::Record;
 use esc_records::RecordRead;
 use esc_records::read_record;
@@ -19,10 +19,7 @@ pub fn admit(opened: bool, bytes: &[u8]) -> Admitted
     let read = read_record(bytes);
     match read {
         RecordRead::Record(record) => {
-            if opened {
-                return Admitted::Record(record);
-            }
-            if opens(record) {
+            if takes(opened, record) {
                 return Admitted::Record(record);
             }
             Admitted::Refused(8)
