@@ -31,12 +31,12 @@ use Rattle.esc_unit.specs.declared.unit.Unit.{Unit}
 use Rattle.esc_records.proofs.AnswerLaws.{answer-at-most}
 use Rattle.esc_unit.proofs.StepLaws.{steps-answered, steps-entered}
 use Rattle.esc_unit.proofs.UnitLaws.{call-admission}
-use Rattle.unit_text.specs.Session.{answerOn}
+use Rattle.unit_text.specs.Session.{answerOn, longestAnswer}
 use Rattle.unit_text.specs.Answering.{takenBy, Answers}
 
-answer-taken : (u : Unit) (l : Reply (List ℕ)) → answerOn u l ≡ onAdmitted u 43 (takenBy (u .opened) l)
+answer-taken : (u : Unit) (l : Reply (List ℕ)) → answerOn u l ≡ onAdmitted u longestAnswer (takenBy (u .opened) l)
 answer-taken u (refused n) = refl
-answer-taken u (accepted s) = call-admission u s 43
+answer-taken u (accepted s) = call-admission u s longestAnswer
 
 held : (m : EscManager) (b : Books) (x t : ℕ) → ltb (m .parser .len) 9 ≡ true
     → stepOf m b (kind.WireByte x t) ≡ stepped (setParser (collected (m .parser) x .parser) (heardBy m t)) b (answer.Wire wire.None)
@@ -47,7 +47,7 @@ module _ (u : Unit) (l : Reply (List ℕ)) where
   pub answers-refused : (n : ℕ) → takenBy (u .opened) l ≡ refused n → Answers u l u (n ∷ [])
   unfolding replyBytes
   answers-refused n e =
-      let by : answerOn u l ≡ refusing u n = answer-taken u l ∙ ap (onAdmitted u 43) e in
+      let by : answerOn u l ≡ refusing u n = answer-taken u l ∙ ap (onAdmitted u longestAnswer) e in
       record { unit = sym (ap (λ (k : Replied). k .unit) by); bytes = sym (ap (λ (k : Replied). replyBytes (k .reply)) by) }
 
   module _ (r : Record) (e : takenBy (u .opened) l ≡ accepted r) where
@@ -56,9 +56,9 @@ module _ (u : Unit) (l : Reply (List ℕ)) where
     answers-stepped s q =
         let by : answerOn u l ≡ accepting s =
         answer-taken u l
-        ∙ ap (onAdmitted u 43) e
-        ∙ ap (λ (x : Stepped). pick (leb (length (answerBytes (x .answer))) 43) (accepting x) (refusing u 9)) q
-        ∙ ap (λ (b : Bool). pick b (accepting s) (refusing u 9)) (le-leb (length (answerBytes (s .answer))) 43 (answer-at-most (s .answer))) in
+        ∙ ap (onAdmitted u longestAnswer) e
+        ∙ ap (λ (x : Stepped). pick (leb (length (answerBytes (x .answer))) longestAnswer) (accepting x) (refusing u 9)) q
+        ∙ ap (λ (b : Bool). pick b (accepting s) (refusing u 9)) (le-leb (length (answerBytes (s .answer))) longestAnswer (answer-at-most (s .answer))) in
         record { unit = sym (ap (λ (k : Replied). k .unit) by); bytes = sym (ap (λ (k : Replied). replyBytes (k .reply)) by) }
 
     -- the manager has the answer, or the books have it

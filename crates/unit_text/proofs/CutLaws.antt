@@ -7,7 +7,7 @@ use native.Mathlib.Omega.{arith}
 use lib.Dec.{eqb}
 use lib.ListN.{length, take}
 use Rattle.base.specs.Choice.{pick}
-use Rattle.unit_text.specs.Line.{lineEnd, readLine, lineRead, recordLength}
+use Rattle.unit_text.specs.Line.{lineEnd, readLine, lineRead, recordLength, longestRecord, mostHeld}
 use Rattle.unit_text.specs.Cut.{firstLine, HeldTo, WholeFrom, CutFrom}
 use Rattle.unit_text.specs.declared.line.LineRead.{LineRead}
 use Rattle.unit_text.specs.declared.line.LineRead.the-variants as read
@@ -43,7 +43,7 @@ module _ {begun chunk buffer : List ℕ} {h : Held} (k : HeldTo begun chunk h bu
       (whole, rw whole at (k .holds))
 
   pub cut-ended : (r : LineRead) → (h .passed ≡ length chunk → ⊥) → lineRead r bytes ≡ readLine (take (h .held) buffer)
-      → recordLength r ≤ 29 → CutFrom begun chunk (Line r (h .passed + 1)) buffer bytes
+      → recordLength r ≤ longestRecord → CutFrom begun chunk (Line r (h .passed + 1)) buffer bytes
   cut-ended r n e l =
       let short : length (firstLine chunk) < length chunk = omega (arith, k .passed, first-within chunk, shorter) in (
         short,
@@ -57,6 +57,6 @@ module _ {begun chunk buffer : List ℕ} {h : Held} (k : HeldTo begun chunk h bu
       shorter q = n (k .passed ∙ q)
 
 -- a line that lies in the chunk whole
-pub cut-whole : (chunk bytes buffer : List ℕ) (n : ℕ) → length buffer ≡ 59 → WholeFrom chunk (Record n) bytes
+pub cut-whole : (chunk bytes buffer : List ℕ) (n : ℕ) → length buffer ≡ mostHeld → WholeFrom chunk (Record n) bytes
     → CutFrom [] chunk (Line (read.Record n) (2 * n + 1)) buffer bytes
 cut-whole chunk bytes buffer n room w = (w .0, omega (arith, w .1), w .2, w .3, room)

@@ -8,32 +8,32 @@ use lib.Seq.{length-take-le, take-all, take-append-le, take-take}
 use Rattle.base.proofs.ByCases.{below-or-not}
 use Rattle.esc_unit.specs.Unit.{Replied}
 use Rattle.esc_unit.specs.declared.unit.Unit.{Unit}
-use Rattle.unit_text.specs.Line.{readLine}
+use Rattle.unit_text.specs.Line.{readLine, mostHeld}
 use Rattle.unit_text.specs.Session.{answerOn, answerLine, unitAfter, lineText}
 use Rattle.unit_text.proofs.LineLaws.{read-wide}
 
-pub cut-line : (line : List ℕ) → readLine (take 59 line) ≡ readLine line
+pub cut-line : (line : List ℕ) → readLine (take mostHeld line) ≡ readLine line
 cut-line line =
-    below-or-not (length line) 59
-    (λ h. ap readLine (take-all 59 line (omega arith)))
-    (λ h. read-wide (take 59 line) (omega (arith, length-take-le 59 line h)) ∙ sym (read-wide line (omega arith)))
+    below-or-not (length line) mostHeld
+    (λ h. ap readLine (take-all mostHeld line (omega arith)))
+    (λ h. read-wide (take mostHeld line) (omega (arith, length-take-le mostHeld line h)) ∙ sym (read-wide line (omega arith)))
 
-pub cut-more : (line : List ℕ) (c : ℕ) → take 59 (take 59 line ++ c ∷ []) ≡ take 59 (line ++ c ∷ [])
+pub cut-more : (line : List ℕ) (c : ℕ) → take mostHeld (take mostHeld line ++ c ∷ []) ≡ take mostHeld (line ++ c ∷ [])
 cut-more line c =
-    below-or-not (length line) 59
-    (λ h. ap (λ (l : List ℕ). take 59 (l ++ c ∷ [])) (take-all 59 line (omega arith)))
+    below-or-not (length line) mostHeld
+    (λ h. ap (λ (l : List ℕ). take mostHeld (l ++ c ∷ [])) (take-all mostHeld line (omega arith)))
     (λ h.
-    take-append-le 59 (take 59 line) (c ∷ []) (omega (arith, length-take-le 59 line h))
-    ∙ take-take 59 59 line (omega arith)
-    ∙ sym (take-append-le 59 line (c ∷ []) h))
+    take-append-le mostHeld (take mostHeld line) (c ∷ []) (omega (arith, length-take-le mostHeld line h))
+    ∙ take-take mostHeld mostHeld line (omega arith)
+    ∙ sym (take-append-le mostHeld line (c ∷ []) h))
 
-cut-answer : (u : Unit) (line : List ℕ) → answerLine u (take 59 line) ≡ answerLine u line
+cut-answer : (u : Unit) (line : List ℕ) → answerLine u (take mostHeld line) ≡ answerLine u line
 unfolding answerLine
 cut-answer u line = ap (answerOn u) (cut-line line)
 
-pub cut-unit : (u : Unit) (line : List ℕ) → unitAfter u (take 59 line) ≡ unitAfter u line
+pub cut-unit : (u : Unit) (line : List ℕ) → unitAfter u (take mostHeld line) ≡ unitAfter u line
 cut-unit u line = ap (λ (r : Replied). r .unit) (cut-answer u line)
 
-pub cut-text : (u : Unit) (line : List ℕ) → lineText u (take 59 line) ≡ lineText u line
+pub cut-text : (u : Unit) (line : List ℕ) → lineText u (take mostHeld line) ≡ lineText u line
 unfolding lineText
 cut-text u line = rw (cut-answer u line)

@@ -10,7 +10,7 @@ use lib.Dec.{eqb}
 use lib.ListN.{length, getD, take, drop, take-append-drop}
 use lib.Seq.{take-suc, take-all, drop-cons, length-take-le}
 use Rattle.base.specs.Choice.{pick}
-use Rattle.unit_text.specs.Line.{lineEnd}
+use Rattle.unit_text.specs.Line.{lineEnd, mostHeld}
 use Rattle.unit_text.specs.Cut.{firstLine, Holds, HeldTo}
 use Rattle.unit_text.proofs.LinesLaws.{Unended}
 use Rattle.unit_text.proofs.HoldLaws.{holds-front, holds-more}
@@ -46,7 +46,7 @@ pub record Holding (begun chunk : List ℕ) (passed n : ℕ) (buffer : List ℕ)
   pub unended : Unended (take passed chunk)
   pub holds : Holds (begun ++ take passed chunk) n buffer
 
-pub holding-none : (chunk buffer : List ℕ) (n : ℕ) → length buffer ≡ 59 → n ≤ 59 → Holding (take n buffer) chunk 0 n buffer
+pub holding-none : (chunk buffer : List ℕ) (n : ℕ) → length buffer ≡ mostHeld → n ≤ mostHeld → Holding (take n buffer) chunk 0 n buffer
 holding-none chunk buffer n room h =
     record {
       within = omega arith;

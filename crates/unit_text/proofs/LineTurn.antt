@@ -7,7 +7,7 @@ use borrow.Author.Tests.{le-leb, lt-leb}
 use lib.ListN.{length, take}
 use lib.Seq.{take-all}
 use Rattle.esc_unit.specs.declared.unit.Unit.{Unit}
-use Rattle.unit_text.specs.Line.{lineEnd}
+use Rattle.unit_text.specs.Line.{lineEnd, mostHeld}
 use Rattle.unit_text.specs.Session.{unitAfter, lineText}
 use Rattle.unit_text.specs.Stream.{Streamed, afterOne, after, printed, taken, longestLine}
 use Rattle.unit_text.proofs.CutLine.{cut-more, cut-unit, cut-text}
@@ -16,7 +16,7 @@ use Rattle.unit_text.proofs.StreamLaws.{after-append, printed-append, a
 
 -- a stream that has passed `line`, of a line that is not ended
 abbrev passed : Unit → List ℕ → Streamed
-passed u line = record { unit = u; line = take 59 line }
+passed u line = record { unit = u; line = take mostHeld line }
 
 past : (u : Unit) (line more : List ℕ) → Unended more → after (passed u line) more ≡ passed u (line ++ more)
 unfolding after
@@ -45,9 +45,9 @@ unfolding taken
 taken-stop s room [] h = refl
 taken-stop s room (c ∷ text) h = rw (lt-leb longestLine room (omega arith))
 
-module _ (u : Unit) (line more : List ℕ) (short : length line ≤ 59) (n : Unended more) where
-  pub after-held : after (record { unit = u; line = line }) more ≡ record { unit = u; line = take 59 (line ++ more) }
-  after-held = ap (λ (l : List ℕ). after (record { unit = u; line = l }) more) (sym (take-all 59 line short)) ∙ past u line more n
+module _ (u : Unit) (line more : List ℕ) (short : length line ≤ mostHeld) (n : Unended more) where
+  pub after-held : after (record { unit = u; line = line }) more ≡ record { unit = u; line = take mostHeld (line ++ more) }
+  after-held = ap (λ (l : List ℕ). after (record { unit = u; line = l }) more) (sym (take-all mostHeld line short)) ∙ past u line more n
 
   pub after-line : after (record { unit = u; line = line }) (more ++ lineEnd ∷ []) ≡ record { unit = unitAfter u (line ++ more); line = [] }
   unfolding after

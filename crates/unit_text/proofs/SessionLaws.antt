@@ -8,7 +8,7 @@ use borrow.Author.Tests.{ne-eqb, eqb-true, eqb-false}
 use lib.Dec.{eqb}
 use lib.ListN.{length, take}
 use Rattle.esc_unit.specs.declared.unit.Unit.{Unit}
-use Rattle.unit_text.specs.Line.{lineEnd}
+use Rattle.unit_text.specs.Line.{lineEnd, mostHeld}
 use Rattle.unit_text.specs.Session.{linesFrom, unitAfter, lineText, linesText, sessionText}
 use Rattle.unit_text.specs.Stream.{Streamed, atStart, afterOne, printedAt, after, printed, printedAtEnd}
 use Rattle.unit_text.proofs.CutLine.{cut-more, cut-unit, cut-text}
@@ -17,7 +17,7 @@ use Rattle.unit_text.proofs.StreamLaws.{after-end, printed-end, after-o
 
 -- a stream that has passed `line`, of a line that is not ended
 abbrev passed : Unit → List ℕ → Streamed
-passed u line = record { unit = u; line = take 59 line }
+passed u line = record { unit = u; line = take mostHeld line }
 
 abbrev all : Streamed → List ℕ → List ℕ
 all s text = printed s text ++ printedAtEnd (after s text)
@@ -49,7 +49,7 @@ unfolding printed after printedAtEnd linesFrom linesText
 says-none u [] = refl
 says-none u (c ∷ line) =
     let some : eqb (length (c ∷ line)) 0 ≡ false = ne-eqb (length (c ∷ line)) 0 (λ z. omega arith) in
-    let some-cut : eqb (length (take 59 (c ∷ line))) 0 ≡ false = ne-eqb (length (take 59 (c ∷ line))) 0 (λ z. omega arith) in
+    let some-cut : eqb (length (take mostHeld (c ∷ line))) 0 ≡ false = ne-eqb (length (take mostHeld (c ∷ line))) 0 (λ z. omega arith) in
     rw (some, some-cut, cut-text u (c ∷ line), append-nil)
 
 says-by : (text : List ℕ) → Says text → (u : Unit) (line : List ℕ) (c : ℕ) (b : Bool) → eqb c lineEnd ≡ b

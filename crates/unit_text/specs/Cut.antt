@@ -6,7 +6,7 @@ use lib.Dec.{eqb}
 use lib.ListN.{length, getD, take}
 use Rattle.base.specs.Choice.{pick}
 use Rattle.base.specs.Reply.{accepted}
-use Rattle.unit_text.specs.Line.{lineEnd, readLine, lineRead, recordLength}
+use Rattle.unit_text.specs.Line.{lineEnd, readLine, lineRead, recordLength, longestRecord, mostHeld}
 use Rattle.unit_text.specs.declared.cut.Held.{Held}
 use Rattle.unit_text.specs.declared.cut.Whole.{Whole}
 use Rattle.unit_text.specs.declared.cut.Whole.the-variants.{Record, Other}
@@ -20,9 +20,9 @@ firstLine (c ∷ text) = pick (eqb c lineEnd) [] (c ∷ firstLine text)
 
 -- the first 59 characters of a line stand in front of its buffer
 pub record Holds (line : List ℕ) (n : ℕ) (buffer : List ℕ) : Type 0 where
-  pub room : length buffer ≡ 59
-  pub within : n ≤ 59
-  pub held : take n buffer ≡ take 59 line
+  pub room : length buffer ≡ mostHeld
+  pub within : n ≤ mostHeld
+  pub held : take n buffer ≡ take mostHeld line
 
 -- up to LF or to the chunk's end: the line that was begun goes on
 pub record HeldTo (begun chunk : List ℕ) (h : Held) (buffer : List ℕ) : Type 0 where
@@ -41,7 +41,7 @@ WholeFrom chunk (Record n) bytes =
     (length (firstLine chunk) < length chunk)
     × (length (firstLine chunk) ≡ 2 * n)
     × (accepted (take n bytes) ≡ readLine (firstLine chunk))
-    × (n ≤ 29)
+    × (n ≤ longestRecord)
 
 -- the line goes on behind the chunk, and is held; or LF ends it, and it is read as a whole
 abbrev pub CutFrom : List ℕ → List ℕ → Cut → List ℕ → List ℕ → Type 0
@@ -50,5 +50,5 @@ CutFrom begun chunk (Line r next) buffer bytes =
     (length (firstLine chunk) < length chunk)
     × (next ≡ length (firstLine chunk) + 1)
     × (lineRead r bytes ≡ readLine (begun ++ firstLine chunk))
-    × (recordLength r ≤ 29)
-    × (length buffer ≡ 59)
+    × (recordLength r ≤ longestRecord)
+    × (length buffer ≡ mostHeld)

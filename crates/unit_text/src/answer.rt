@@ -7,6 +7,7 @@ ghost use Rattle.esc_unit.specs.Admission.{admitted};
 ghost use Rattle.esc_records.specs.Answer.{answerBytes};
 ghost use Rattle.unit_text.specs.Line.{lineRead, recordLength};
 ghost use Rattle.unit_text.specs.Answering.{takenBy, PrintedAt};
+ghost use Rattle.unit_text.specs.Stream.{longestLine};
 use crate::line::LineRead;
 use crate::line::print_line;
 use esc_records::Answer;
@@ -26,7 +27,7 @@ pub(crate) fn take(opened: bool, read: LineRead, bytes: &[u8]) -> Admitted
 }
 
 pub(crate) fn print_answer(answer: Answer, out: &mut [u8], at: usize) -> usize
-    requires { ⌜ at + 87 ≤ length (now out) ⌝ }
+    requires { ⌜ at + longestLine ≤ length (now out) ⌝ }
     ensures { λ r. ⌜ PrintedAt (answerBytes answer) at (now (out .entry)) r (now (out .exit)) ⌝ }
 {
     let text = answer_text(answer);
@@ -36,7 +37,7 @@ pub(crate) fn print_answer(answer: Answer, out: &mut [u8], at: usize) -> usize
 }
 
 pub(crate) fn print_refusal(number: u8, out: &mut [u8], at: usize) -> usize
-    requires { ⌜ at + 87 ≤ length (now out) ⌝ }
+    requires { ⌜ at + longestLine ≤ length (now out) ⌝ }
     ensures { λ r. ⌜ PrintedAt (number ∷ []) at (now (out .entry)) r (now (out .exit)) ⌝ }
 {
     let one = [number];
@@ -45,7 +46,7 @@ pub(crate) fn print_refusal(number: u8, out: &mut [u8], at: usize) -> usize
 
 // The answer to a 05 that brings nothing.
 pub(crate) fn print_nothing(out: &mut [u8], at: usize) -> usize
-    requires { ⌜ at + 87 ≤ length (now out) ⌝ }
+    requires { ⌜ at + longestLine ≤ length (now out) ⌝ }
     ensures { λ r. ⌜ PrintedAt (0x00 ∷ 0x00 ∷ []) at (now (out .entry)) r (now (out .exit)) ⌝ }
 {
     let nothing = [0u8; 2];

@@ -6,6 +6,7 @@ ghost use Prim.Native.Nat.{_≤_};
 ghost use lib.ListN.{length, take};
 ghost use Rattle.unit_text.specs.Digit.{DigitTabled};
 ghost use Rattle.unit_text.specs.Cut.{Holds, HeldTo, WholeFrom, EndedAt, CutFrom};
+ghost use Rattle.unit_text.specs.Line.{longestRecord, mostHeld};
 use crate::line::LINE_END;
 use crate::line::LONGEST_RECORD;
 use crate::line::LineRead;
@@ -43,7 +44,7 @@ pub(crate) fn next_line(
     held: usize,
     bytes: &mut [u8],
 ) -> Cut
-    requires { ⌜ DigitTabled (now digits) × (length (now bytes) ≡ 29) × (length (now buffer) ≡ 59) × (held ≤ 59) ⌝ }
+    requires { ⌜ DigitTabled (now digits) × (length (now bytes) ≡ longestRecord) × (length (now buffer) ≡ mostHeld) × (held ≤ mostHeld) ⌝ }
     ensures { λ r. ⌜ CutFrom (take held (now (buffer .entry))) (now (chunk .entry)) r (now (buffer .exit)) (now (bytes .exit)) ⌝ }
 {
     if held == 0 {
@@ -64,7 +65,7 @@ fn held_line(
     held: usize,
     bytes: &mut [u8],
 ) -> Cut
-    requires { ⌜ DigitTabled (now digits) × (length (now bytes) ≡ 29) × (length (now buffer) ≡ 59) × (held ≤ 59) ⌝ }
+    requires { ⌜ DigitTabled (now digits) × (length (now bytes) ≡ longestRecord) × (length (now buffer) ≡ mostHeld) × (held ≤ mostHeld) ⌝ }
     ensures { λ r. ⌜ CutFrom (take held (now (buffer .entry))) (now (chunk .entry)) r (now (buffer .exit)) (now (bytes .exit)) ⌝ }
 {
     let h = hold(chunk, buffer, held);
@@ -78,7 +79,7 @@ fn held_line(
 
 // Reads a line from where it stands, as nearly every line can be.
 fn whole_line(digits: &[u8; 256], chunk: &[u8], bytes: &mut [u8]) -> Whole
-    requires { ⌜ DigitTabled (now digits) × (length (now bytes) ≡ 29) ⌝ }
+    requires { ⌜ DigitTabled (now digits) × (length (now bytes) ≡ longestRecord) ⌝ }
     ensures { λ r. ⌜ WholeFrom (now (chunk .entry)) r (now (bytes .exit)) ⌝ }
 {
     let mut place: usize = 0;
@@ -113,7 +114,7 @@ fn ended(chunk: &[u8], place: usize, n: usize) -> Whole
 
 // Holds the characters before LF.
 fn hold(chunk: &[u8], buffer: &mut [u8], held: usize) -> Held
-    requires { ⌜ (length (now buffer) ≡ 59) × (held ≤ 59) ⌝ }
+    requires { ⌜ (length (now buffer) ≡ mostHeld) × (held ≤ mostHeld) ⌝ }
     ensures { λ r. ⌜ HeldTo (take held (now (buffer .entry))) (now (chunk .entry)) r (now (buffer .exit)) ⌝ }
 {
     let mut passed: usize = 0;
@@ -131,7 +132,7 @@ fn hold(chunk: &[u8], buffer: &mut [u8], held: usize) -> Held
 
 // One character more, or none where the line is already too wide.
 fn hold_one(buffer: &mut [u8], n: usize, character: u8) -> usize
-    requires { ⌜ (length (now buffer) ≡ 59) × (n ≤ 59) ⌝ }
+    requires { ⌜ (length (now buffer) ≡ mostHeld) × (n ≤ mostHeld) ⌝ }
     ensures { λ r. ⌜ Holds (take n (now (buffer .entry)) ++ character ∷ []) r (now (buffer .exit)) ⌝ }
 {
     if n < HELD {

@@ -6,6 +6,7 @@ ghost use lib.ListN.{length};
 ghost use Rattle.base.specs.Handed.{handedReply, handedOutput};
 ghost use Rattle.unit_text.specs.Stream.{atStart, feedOf, fedOutput, printedAtEnd};
 ghost use Rattle.unit_text.specs.Streams.{streamed, fed};
+ghost use Rattle.unit_text.specs.Line.{mostHeld};
 ghost use Rattle.base.specs.Handed.{handed};
 use crate::answer::print_answer;
 use crate::answer::print_nothing;
@@ -182,7 +183,7 @@ impl Stream {
 
 // A line's buffer has no more than it can hold.
 fn at_most_held(n: usize) -> usize
-    ensures { λ r. ⌜ r ≡ min n 59 ⌝ }
+    ensures { λ r. ⌜ r ≡ min n mostHeld ⌝ }
 {
     if n < HELD { n } else { HELD }
 }

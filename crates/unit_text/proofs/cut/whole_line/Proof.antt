@@ -3,6 +3,7 @@ use native.Mathlib.Omega.{arith}
 use Prim.Native.Nat.{_-_}
 use Rattle.unit_text.proofs.WholeLine.{Reading, reading-none, reading-more, reading-ended}
 use borrow.Author.Needs.{needs}
+use Rattle.unit_text.specs.Line.{longestRecord}
 use Rattle.unit_text.proofs.cut.whole_line.Statement.{statement}
 use Rattle.unit_text.proofs.cut.whole_line.Tie as tie
 
@@ -10,7 +11,7 @@ abbrev Inv-loop : tie.InvT-loop
 Inv-loop digits chunk bytes₀ place₀ n₀ bytes place n = Reading chunk bytes place n
 
 abbrev μ-loop : tie.MeasureT-loop
-μ-loop digits chunk bytes₀ place₀ n₀ bytes place n = 29 - n
+μ-loop digits chunk bytes₀ place₀ n₀ bytes place n = longestRecord - n
 
 loop-holds : tie.Need-loop-holds Inv-loop μ-loop
 loop-holds c = reading-none _ _ (c .before .before .pre .1)
