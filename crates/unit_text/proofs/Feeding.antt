@@ -16,9 +16,9 @@ use Rattle.esc_unit.specs.declared.unit.Unit.{Unit}
 use Rattle.unit_text.specs.Line.{lineEnd, readLine, printedLine, longestRecord, mostHeld}
 use Rattle.unit_text.specs.Session.{answerOn, answerLine, unitAfter, lineText}
 use Rattle.unit_text.specs.Stream.{Streamed, after, printed, taken, feedOf, fedOutput, longestLine}
-use Rattle.unit_text.specs.Cut.{firstLine, CutFrom}
+use Rattle.unit_text.specs.NextLine.{firstLine, NextFrom}
 use Rattle.unit_text.specs.Answering.{Answers, PrintedAt}
-use Rattle.unit_text.specs.declared.cut.Cut.the-variants.{Open}
+use Rattle.unit_text.specs.declared.next_line.NextLine.the-variants.{Open}
 use Rattle.base.proofs.PutLaws.{overwrite-none}
 use Rattle.unit_text.proofs.LinesLaws.{Unended}
 use Rattle.unit_text.proofs.FirstLine.{first-unended, first-split}
@@ -111,7 +111,7 @@ module _ {s : Streamed} {chunk out₀ : List ℕ} {unit : Unit} {line : List ℕ
 
   module _ (roomy : longestLine ≤ length out₀ - written) where
     -- the chunk ends before the line does
-    pub fed-open : (n : ℕ) (line′ bytes′ : List ℕ) → CutFrom begun left (Open n) line′ bytes′
+    pub fed-open : (n : ℕ) (line′ bytes′ : List ℕ) → NextFrom begun left (Open n) line′ bytes′
         → (record { stream = record { unit = unit; line = take n line′ }; used = length chunk; written = written } ≡ feedOf s chunk (length out₀))
         × (out ≡ fedOutput s chunk out₀)
     unfolding taken

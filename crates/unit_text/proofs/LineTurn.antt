@@ -10,7 +10,7 @@ use Rattle.esc_unit.specs.declared.unit.Unit.{Unit}
 use Rattle.unit_text.specs.Line.{lineEnd, mostHeld}
 use Rattle.unit_text.specs.Session.{unitAfter, lineText}
 use Rattle.unit_text.specs.Stream.{Streamed, afterOne, after, printed, taken, longestLine}
-use Rattle.unit_text.proofs.CutLine.{cut-more, cut-unit, cut-text}
+use Rattle.unit_text.proofs.HeldEnough.{enough-more, enough-unit, enough-text}
 use Rattle.unit_text.proofs.LinesLaws.{Unended}
 use Rattle.unit_text.proofs.StreamLaws.{after-append, printed-append, after-end, printed-end, after-other, printed-other}
 
@@ -22,7 +22,7 @@ past : (u : Unit) (line more : List ℕ) → Unended more → after (passed u li
 unfolding after
 past u line [] n = rw (append-nil line)
 past u line (c ∷ more) n =
-    rw (after-other (passed u line) c (n .0), cut-more line c)
+    rw (after-other (passed u line) c (n .0), enough-more line c)
     (past u (line ++ c ∷ []) more (n .1) ∙ ap (passed u) (append-assoc line (c ∷ []) more))
 
 pub printed-past : (s : Streamed) (more : List ℕ) → Unended more → printed s more ≡ []
@@ -53,14 +53,14 @@ module _ (u : Unit) (line more : List ℕ) (short : length line ≤ mostHeld) (n
   unfolding after
   after-line =
       after-append (record { unit = u; line = line }) more (lineEnd ∷ [])
-      ∙ rw after-held (after-end (passed u (line ++ more)) lineEnd refl ∙ rw (cut-unit u (line ++ more)))
+      ∙ rw after-held (after-end (passed u (line ++ more)) lineEnd refl ∙ rw (enough-unit u (line ++ more)))
 
   pub printed-line : printed (record { unit = u; line = line }) (more ++ lineEnd ∷ []) ≡ lineText u (line ++ more)
   unfolding printed
   printed-line =
       printed-append (record { unit = u; line = line }) more (lineEnd ∷ [])
       ∙ rw (printed-past (record { unit = u; line = line }) more n, after-held, append-nil)
-      (printed-end (passed u (line ++ more)) lineEnd refl ∙ cut-text u (line ++ more))
+      (printed-end (passed u (line ++ more)) lineEnd refl ∙ enough-text u (line ++ more))
 
   pub taken-line : (room : ℕ) (text : List ℕ) → longestLine ≤ room
       → taken (record { unit = u; line = line }) room (more ++ lineEnd ∷ text)
@@ -69,5 +69,5 @@ module _ (u : Unit) (line more : List ℕ) (short : length line ≤ mostHeld) (n
   taken-line room text h =
       taken-past (record { unit = u; line = line }) room more (lineEnd ∷ text) h n
       ∙ rw
-      (after-held, le-leb longestLine room h, after-end (passed u (line ++ more)) lineEnd refl, printed-end (passed u (line ++ more)) lineEnd refl, cut-unit u (line ++ more), cut-text u (line ++ more))
+      (after-held, le-leb longestLine room h, after-end (passed u (line ++ more)) lineEnd refl, printed-end (passed u (line ++ more)) lineEnd refl, enough-unit u (line ++ more), enough-text u (line ++ more))
       refl

@@ -2,7 +2,7 @@ pub mod Digit
 pub mod Line
 pub mod Session
 pub mod Stream
-pub mod Cut
+pub mod NextLine
 pub mod Answering
 pub mod WireLine
 pub mod Streams

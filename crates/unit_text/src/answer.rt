@@ -6,7 +6,7 @@ ghost use lib.ListN.{length};
 ghost use Rattle.esc_unit.specs.Admission.{admitted};
 ghost use Rattle.esc_records.specs.Answer.{answerBytes};
 ghost use Rattle.unit_text.specs.Line.{lineRead, recordLength};
-ghost use Rattle.unit_text.specs.Answering.{takenBy, PrintedAt};
+ghost use Rattle.unit_text.specs.Answering.{admittedBy, PrintedAt};
 ghost use Rattle.unit_text.specs.Stream.{longestLine};
 use crate::line::LineRead;
 use crate::line::print_line;
@@ -16,9 +16,9 @@ use esc_unit::Admitted;
 use esc_unit::admit;
 
 // The record that a line stands for, in front of `bytes`, if a unit that was opened, or was not, takes it.
-pub(crate) fn take(opened: bool, read: LineRead, bytes: &[u8]) -> Admitted
+pub(crate) fn admit_line(opened: bool, read: LineRead, bytes: &[u8]) -> Admitted
     requires { ⌜ recordLength read ≤ length (now bytes) ⌝ }
-    ensures { λ r. ⌜ admitted r ≡ takenBy opened (lineRead read (now (bytes .entry))) ⌝ }
+    ensures { λ r. ⌜ admitted r ≡ admittedBy opened (lineRead read (now (bytes .entry))) ⌝ }
 {
     match read {
         LineRead::Refused(number) => Admitted::Refused(number),

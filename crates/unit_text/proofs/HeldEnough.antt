@@ -12,14 +12,14 @@ use Rattle.unit_text.specs.Line.{readLine, mostHeld}
 use Rattle.unit_text.specs.Session.{answerOn, answerLine, unitAfter, lineText}
 use Rattle.unit_text.proofs.LineLaws.{read-wide}
 
-pub cut-line : (line : List ℕ) → readLine (take mostHeld line) ≡ readLine line
-cut-line line =
+pub enough-line : (line : List ℕ) → readLine (take mostHeld line) ≡ readLine line
+enough-line line =
     below-or-not (length line) mostHeld
     (λ h. ap readLine (take-all mostHeld line (omega arith)))
     (λ h. read-wide (take mostHeld line) (omega (arith, length-take-le mostHeld line h)) ∙ sym (read-wide line (omega arith)))
 
-pub cut-more : (line : List ℕ) (c : ℕ) → take mostHeld (take mostHeld line ++ c ∷ []) ≡ take mostHeld (line ++ c ∷ [])
-cut-more line c =
+pub enough-more : (line : List ℕ) (c : ℕ) → take mostHeld (take mostHeld line ++ c ∷ []) ≡ take mostHeld (line ++ c ∷ [])
+enough-more line c =
     below-or-not (length line) mostHeld
     (λ h. ap (λ (l : List ℕ). take mostHeld (l ++ c ∷ [])) (take-all mostHeld line (omega arith)))
     (λ h.
@@ -27,13 +27,13 @@ cut-more line c =
     ∙ take-take mostHeld mostHeld line (omega arith)
     ∙ sym (take-append-le mostHeld line (c ∷ []) h))
 
-cut-answer : (u : Unit) (line : List ℕ) → answerLine u (take mostHeld line) ≡ answerLine u line
+enough-answer : (u : Unit) (line : List ℕ) → answerLine u (take mostHeld line) ≡ answerLine u line
 unfolding answerLine
-cut-answer u line = ap (answerOn u) (cut-line line)
+enough-answer u line = ap (answerOn u) (enough-line line)
 
-pub cut-unit : (u : Unit) (line : List ℕ) → unitAfter u (take mostHeld line) ≡ unitAfter u line
-cut-unit u line = ap (λ (r : Replied). r .unit) (cut-answer u line)
+pub enough-unit : (u : Unit) (line : List ℕ) → unitAfter u (take mostHeld line) ≡ unitAfter u line
+enough-unit u line = ap (λ (r : Replied). r .unit) (enough-answer u line)
 
-pub cut-text : (u : Unit) (line : List ℕ) → lineText u (take mostHeld line) ≡ lineText u line
+pub enough-text : (u : Unit) (line : List ℕ) → lineText u (take mostHeld line) ≡ lineText u line
 unfolding lineText
-cut-text u line = rw (cut-answer u line)
+enough-text u line = rw (enough-answer u line)

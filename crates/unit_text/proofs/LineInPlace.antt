@@ -10,9 +10,9 @@ use lib.Seq.{length-take-le, take-suc-set}
 use Rattle.base.specs.Reply.{accepted}
 use Rattle.unit_text.specs.Digit.{pairOf}
 use Rattle.unit_text.specs.Line.{allDigits, pairs, longestRecord}
-use Rattle.unit_text.specs.Cut.{firstLine, EndedAt, WholeFrom}
-use Rattle.unit_text.specs.declared.cut.Whole.{Whole}
-use Rattle.unit_text.specs.declared.cut.Whole.the-variants.{Record, Other}
+use Rattle.unit_text.specs.NextLine.{firstLine, EndedAt, InPlaceFrom}
+use Rattle.unit_text.specs.declared.next_line.InPlace.{InPlace}
+use Rattle.unit_text.specs.declared.next_line.InPlace.the-variants.{Record, Other}
 use Rattle.unit_text.proofs.LineLaws.{read-whole}
 use Rattle.unit_text.proofs.FirstLine.{first-ended}
 use Rattle.unit_text.proofs.PairsLaws.{pair-read, unended-digits, take-two, digits-more, pairs-two}
@@ -51,7 +51,7 @@ module _ {chunk bytes : List ℕ} {place n : ℕ} (k : Reading chunk bytes place
             (sym (take-suc-set bytes n v (omega (arith, k .room))));
       }
 
-  pub reading-ended : (r : Whole) → EndedAt chunk place n r → WholeFrom chunk r bytes
+  pub reading-ended : (r : InPlace) → EndedAt chunk place n r → InPlaceFrom chunk r bytes
   reading-ended Other e = tt
   reading-ended (Record m) e =
       let line : firstLine chunk ≡ take place chunk = first-ended chunk place (unended-digits (take place chunk) (k .digits)) (e .1) (e .2) in

@@ -4,8 +4,8 @@ use native.Mathlib.Omega.{arith}
 use Prim.Native.Nat.{_-_}
 use lib.ListN.{length, take}
 use Rattle.unit_text.proofs.FirstLine.{Holding, holding-none, holding-more, holding-ended, holding-open}
-use Rattle.unit_text.proofs.cut.hold.Statement.{statement}
-use Rattle.unit_text.proofs.cut.hold.Tie as tie
+use Rattle.unit_text.proofs.next_line.hold.Statement.{statement}
+use Rattle.unit_text.proofs.next_line.hold.Tie as tie
 
 abbrev Inv-loop : tie.InvT-loop
 Inv-loop chunk buffer₀ held passed₀ n₀ buffer passed n = Holding (take held buffer₀) chunk passed n buffer
