@@ -75,4 +75,5 @@ module _ (u : Unit) (l : Reply (List ℕ)) where
       → Answers u l (unitOf (setParser (collected (u .manager .parser) x .parser) (heardBy (u .manager) t)) (u .books)) (0x00 ∷ 0x00 ∷ [])
   unfolding answerBytes bodyBytes wireBytes
   answers-collected x t e few =
-      answers-stepped (kind.WireByte x t) e (stepped (setParser (collected (u .manager .parser) x .parser) (heardBy (u .manager) t)) (u .books) (answer.Wire wire.None)) (only-collected (u .manager) (u .books) x t few)
+      answers-stepped (kind.WireByte x t) e (stepped (setParser (collected (u .manager .parser) x .parser) (heardBy (u .manager) t)) (u .books)
+      (answer.Wire wire.None)) (only-collected (u .manager) (u .books) x t few)

@@ -95,14 +95,16 @@ module _ {s : Streamed} {chunk out₀ : List ℕ} {unit : Unit} {line : List ℕ
 
   -- no room for a line more, or nothing left
   pub fed-stop : length out₀ - written < longestLine
-      → (record { stream = record { unit = unit; line = begun }; used = used; written = written } ≡ feedOf s chunk (length out₀)) × (out ≡ fedOutput s chunk out₀)
+      → (record { stream = record { unit = unit; line = begun }; used = used; written = written } ≡ feedOf s chunk (length out₀))
+      × (out ≡ fedOutput s chunk out₀)
   fed-stop h =
       let none : taken (after s (take used chunk)) (length out₀ - written) left ≡ 0 =
       taken-stop (after s (take used chunk)) (length out₀ - written) left (omega arith) in
       fed-by s chunk out₀ _ out used written (omega (arith, k .rest)) (k .within) (k .stream) (k .count) (k .text)
 
   pub fed-end : length chunk ≤ used
-      → (record { stream = record { unit = unit; line = begun }; used = used; written = written } ≡ feedOf s chunk (length out₀)) × (out ≡ fedOutput s chunk out₀)
+      → (record { stream = record { unit = unit; line = begun }; used = used; written = written } ≡ feedOf s chunk (length out₀))
+      × (out ≡ fedOutput s chunk out₀)
   unfolding taken
   fed-end h =
       let e : left ≡ [] = drop-of-length-le chunk h in
@@ -175,7 +177,8 @@ module _ {s : Streamed} {chunk out₀ : List ℕ} {unit : Unit} {line : List ℕ
       taken-after : taken (after s (take used chunk)) (length out₀ - written) left
           ≡ next + taken (after s (take (used + next) chunk)) (length out₀ - written′) (drop (used + next) chunk)
       taken-after =
-          let rest : drop (length more + 1) left ≡ drop (used + next) chunk = drop-drop (length more + 1) used chunk ∙ ap (λ (n : ℕ). drop (used + n) chunk) (sym (behind)) in
+          let rest : drop (length more + 1) left ≡ drop (used + next) chunk = drop-drop (length more + 1) used chunk
+          ∙ ap (λ (n : ℕ). drop (used + n) chunk) (sym (behind)) in
           let room : length out₀ - written - length (lineText unit (begun ++ more)) ≡ length out₀ - written′ = omega (arith, next-place) in
           rw (← k .stream, ← stream-after, unit-after)
           (ap (taken (record { unit = unit; line = begun }) (length out₀ - written)) (first-split left (ended))
@@ -198,6 +201,7 @@ module _ {s : Streamed} {chunk out₀ : List ℕ} {unit : Unit} {line : List ℕ
                 rw printed-after
                 (p .text
                 ∙ rw (said, k .text)
-                (overwrite-append 0 written (printed s (take used chunk)) (lineText unit (begun ++ more)) out₀ (omega (arith, k .count)) (omega (arith, next-place, room-after))));
+                (overwrite-append 0 written (printed s (take used chunk)) (lineText unit (begun ++ more)) out₀ (omega (arith, k .count))
+                (omega (arith, next-place, room-after))));
             rest = omega (arith, k .rest, taken-after);
           }

@@ -68,6 +68,12 @@ module _ (u : Unit) (line more : List ℕ) (short : length line ≤ mostHeld) (n
   unfolding taken
   taken-line room text h =
       taken-past (record { unit = u; line = line }) room more (lineEnd ∷ text) h n
-      ∙ rw
-      (after-held, le-leb longestLine room h, after-end (passed u (line ++ more)) lineEnd refl, printed-end (passed u (line ++ more)) lineEnd refl, enough-unit u (line ++ more), enough-text u (line ++ more))
+      ∙ rw (
+        after-held,
+        le-leb longestLine room h,
+        after-end (passed u (line ++ more)) lineEnd refl,
+        printed-end (passed u (line ++ more)) lineEnd refl,
+        enough-unit u (line ++ more),
+        enough-text u (line ++ more),
+      )
       refl

@@ -78,7 +78,8 @@ module _ (chunk : List ℕ) (place : ℕ) (h : place + 1 < length chunk) where
   pub take-two : take (place + 2) chunk ≡ take place chunk ++ getD chunk place 0 ∷ getD chunk (place + 1) 0 ∷ []
   take-two =
       let two : place + 2 ≡ suc (suc place) = omega arith in
-      rw (two, take-suc chunk (suc place) 0 (omega arith), take-suc chunk place 0 (omega arith), add-one place) (append-assoc (take place chunk) (getD chunk place 0 ∷ []) (getD chunk (suc place) 0 ∷ []))
+      rw (two, take-suc chunk (suc place) 0 (omega arith), take-suc chunk place 0 (omega arith), add-one place)
+      (append-assoc (take place chunk) (getD chunk place 0 ∷ []) (getD chunk (suc place) 0 ∷ []))
 
   pub digits-more : allDigits (take place chunk) ≡ true → digitOf (getD chunk place 0) < 16 → digitOf (getD chunk (place + 1) 0) < 16
       → allDigits (take (place + 2) chunk) ≡ true

@@ -93,7 +93,13 @@ module _ (chunk : List ℕ) (long : 20 < length chunk) where
         let time : numberAt 8 (spelt chunk) 2 ≡ t = rw e at (sym (r .time)) in
         let record-read : readRecord (spelt chunk) ≡ accepted (kind.WireByte v t) =
         wire-record (spelt chunk) (pairs-length (take 20 chunk) 10 all) first ∙ rw (second, time) in
-        record { long = long; ends = rw line all; admitted = rw line (ap (admittedBy true) (read-whole (take 20 chunk) (omega (arith, all)) digits (omega (arith, all))) ∙ admitted-open true (spelt chunk) _ record-read refl) }
+        record {
+          long = long;
+          ends = rw line all;
+          admitted = rw line
+              (ap (admittedBy true) (read-whole (take 20 chunk) (omega (arith, all)) digits (omega (arith, all)))
+              ∙ admitted-open true (spelt chunk) _ record-read refl);
+        }
 
 pub collected-wire : (held : ℕ) (opened : Bool) (p : StreamParser) (chunk : List ℕ) (r : WireLine) → held ≡ 0 → opened ≡ true → ltb (p .len) 9 ≡ true
     → WireFrom chunk r → CollectedFrom held opened p chunk r

@@ -16,7 +16,8 @@ enum-known-read-2 c = search needs
 slice-aggregate-admit : tie.Need-slice-aggregate-admit
 slice-aggregate-admit c =
     let n = c .before .before .read2 .given in
-    sym (length-take-le (n .0 .0) (c .before .before .before .before .before .args .bytes .now) (omega (arith, ap recordLength (n .1), c .before .before .before .before .before .pre)))
+    sym (length-take-le (n .0 .0) (c .before .before .before .before .before .args .bytes .now)
+    (omega (arith, ap recordLength (n .1), c .before .before .before .before .before .pre)))
 
 admit-requires : tie.Need-admit-requires
 admit-requires c κs = search needs

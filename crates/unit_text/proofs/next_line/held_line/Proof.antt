@@ -14,7 +14,8 @@ same-length : tie.Need-same-length
 same-length c = search needs
 
 returns : tie.Need-returns
-returns c = let h = c .before .before .before .hold in next-open (h .ensures) (c .before .before .before .before .before .before .before .before .args .bytes .now) (c .if1 .taken)
+returns c = let h = c .before .before .before .hold in next-open (h .ensures)
+    (c .before .before .before .before .before .before .before .before .args .bytes .now) (c .if1 .taken)
 
 slice-reshare-prefix-read-line : tie.Need-slice-reshare-prefix-read-line
 slice-reshare-prefix-read-line c = search needs
@@ -30,7 +31,13 @@ read-line-requires c κs = search needs
 add-t11 : tie.Need-add-t11
 add-t11 c =
     let h = c .before .before .before .before .before .before .before .before .hold in
-    omega (arith, h .ensures .passed, first-within (c .before .before .before .before .before .before .before .before .before .before .before .before .before .args .chunk .now), c .before .before .before .before .before .before .before .before .before .before .before .before .before .good)
+    omega (
+      arith,
+      h .ensures .passed,
+      first-within
+          (c .before .before .before .before .before .before .before .before .before .before .before .before .before .args .chunk .now),
+      c .before .before .before .before .before .before .before .before .before .before .before .before .before .good,
+    )
 
 same-length-2 : tie.Need-same-length-2
 same-length-2 c = search needs

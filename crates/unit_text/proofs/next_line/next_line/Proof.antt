@@ -14,7 +14,9 @@ line-in-place-requires c κs = search needs
 enum-known-in-place : tie.Need-enum-known-in-place
 enum-known-in-place c = search needs
 
-in-place : (c : tie.After-known-told) → InPlaceFrom (now (c .before .before .before .before .before .before .before .before .before .before .before .args .chunk)) (Record (c .before .in-place .given .0 .0)) (c .before .before .before .before .before .line-in-place .last .1 .1 .0)
+in-place : (c : tie.After-known-told) → InPlaceFrom
+    (now (c .before .before .before .before .before .before .before .before .before .before .before .args .chunk))
+    (Record (c .before .in-place .given .0 .0)) (c .before .before .before .before .before .line-in-place .last .1 .1 .0)
 in-place c = rw (c .before .in-place .given .1) at (c .before .before .before .before .before .line-in-place .ensures)
 
 mul-t12 : tie.Need-mul-t12
@@ -27,7 +29,9 @@ same-length : tie.Need-same-length
 same-length c = search needs
 
 returns : tie.Need-returns
-returns c = rw (c .before .before .before .before .before .before .before .if1 .taken) (next-in-place _ _ (now (c .before .before .before .before .before .before .before .before .before .before .before .args .buffer)) _ (c .before .before .before .before .before .before .before .before .before .before .before .pre .2) (in-place c))
+returns c = rw (c .before .before .before .before .before .before .before .if1 .taken)
+    (next-in-place _ _ (now (c .before .before .before .before .before .before .before .before .before .before .before .args .buffer)) _
+    (c .before .before .before .before .before .before .before .before .before .before .before .pre .2) (in-place c))
 
 enum-told : tie.Need-enum-told
 enum-told c = search needs

@@ -22,7 +22,9 @@ wire-line-requires : tie.Need-wire-line-requires
 wire-line-requires c κs = search needs
 
 returns-4 : tie.Need-returns-4
-returns-4 c = collected-wire _ _ _ _ (c .wire-line .result) (c .before .before .before .before .if1 .left) (not-false _ (c .before .before .before .if2 .left)) (sym (c .before .before .collects .ensures) ∙ not-false _ (c .before .if3 .left)) (c .wire-line .ensures)
+returns-4 c = collected-wire _ _ _ _ (c .wire-line .result) (c .before .before .before .before .if1 .left)
+    (not-false _ (c .before .before .before .if2 .left)) (sym (c .before .before .collects .ensures) ∙ not-false _ (c .before .if3 .left))
+    (c .wire-line .ensures)
 
 pub collected-byte-spec : {M : Type 1} → statement M
 collected-byte-spec =

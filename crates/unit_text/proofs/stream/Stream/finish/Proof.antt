@@ -45,7 +45,13 @@ returns-2 c =
     let f = c .before .before .before .before .before .before .feed in
     let h = c .before .before .hand in
     let a = c .before .before .before .before .before .before .before .before .before .before .before .before .args in
-    let text = finish-some _ _ (f .last .1 .1 .0) _ (λ e. omega (arith, length-take (a .self .held) (a .self .line), (line-length (c .before .before .before .before .before .before .before .before .before .before .before .before)), c .before .before .before .before .before .before .before .before .before .if1 .left)) refl (f .ensures .0) (f .ensures .1) in
+    let text = finish-some _ _ (f .last .1 .1 .0) _
+    (λ e. omega (
+      arith,
+      length-take (a .self .held) (a .self .line),
+      (line-length (c .before .before .before .before .before .before .before .before .before .before .before .before)),
+      c .before .before .before .before .before .before .before .before .before .if1 .left,
+    )) refl (f .ensures .0) (f .ensures .1) in
     (h .ensures .0 ∙ ap (λ (l : List ℕ). handedReply l (length (a .out .now))) text, h .ensures .1 ∙ ap (λ (l : List ℕ). handedOutput l (a .out .now)) text)
 
 pub finish-spec : {M : Type 1} → statement M
