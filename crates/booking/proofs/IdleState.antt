@@ -10,7 +10,7 @@ use lib.ListN.{length}
 use Rattle.base.specs.Choice.{pick}
 use Rattle.base.specs.Due.{due}
 use Rattle.esc_idle.specs.IdleConfig.{validSettings}
-use Rattle.esc_idle.specs.IdleLane.{clearLane, countLane, expired as unitExpired, expireLane, expireLanes, everyEnough}
+use Rattle.esc_idle.specs.IdleLane.{clearLane, countLane, newestExpired as unitExpired, expireLane, expireLanes, everyEnough}
 use Rattle.esc_idle.specs.Idle.{newIdle, saying, decided, freshAt, weighed as unitWeighed, statusOf, sampled, measured, observeOf}
 use Rattle.esc_feedback.specs.declared.output.Lane.{Lane}
 use Rattle.esc_feedback.specs.declared.output.Lane.the-variants.{Output1, Output2, Output3, Output4}

@@ -23,7 +23,7 @@ use Rattle.esc_records.specs.declared.record.Record.{Record}
 use Rattle.esc_records.specs.declared.answer.Answer.{Answer}
 use Rattle.esc_records.specs.declared.answer.IdleAnswer.the-variants.{NoCheck, Status}
 use Rattle.booking.specs.History.{Call, Check, Seen, seen, saidBy, Past, Since, since}
-use Rattle.booking.specs.IdleRule.{check, verdict, valid, pastGrace, erpm, fresh, joined, streakAt, run as laneRun, tally, settled, judgedAt}
+use Rattle.booking.specs.IdleRule.{check, verdict, valid, pastGrace, erpm, fresh, joined, streakAt, streak as laneRun, tally, settled, judgedAt}
 use Rattle.booking.specs.Rule.{answerTo, withRoom, ruleFor}
 use Rattle.booking.specs.Run.{run}
 use Rattle.booking.specs.Qualified.{counted, Earned, QualifiedOnlyIf}

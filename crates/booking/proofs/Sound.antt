@@ -15,7 +15,7 @@ use Rattle.esc_records.specs.declared.answer.IdleAnswer.{IdleAnswer}
 use Rattle.esc_records.specs.declared.answer.IdleAnswer.the-variants.{NoCheck, Status}
 use Rattle.base.specs.Maybe.{earliest}
 use Rattle.booking.specs.History.{Opening, Check, Seen, seen, Past}
-use Rattle.booking.specs.IdleRule.{check, verdictIn, verdict, valid, pastGrace, erpm, streakAt, run as laneRun, settled, judgedAt, judged}
+use Rattle.booking.specs.IdleRule.{check, verdictIn, verdict, valid, pastGrace, erpm, streakAt, streak as laneRun, settled, judgedAt, judged}
 use Rattle.booking.specs.Rule.{answerTo}
 use Rattle.booking.specs.Qualified.{counted}
 use Rattle.booking.proofs.Lawful.{Lawful, start, more}
