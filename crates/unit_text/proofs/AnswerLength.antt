@@ -13,23 +13,24 @@ use Rattle.esc_records.specs.declared.answer.Answer.{Answer}
 use Rattle.esc_records.specs.declared.record.Record.{Record}
 use Rattle.esc_unit.specs.declared.unit.Unit.{Unit}
 use Rattle.esc_records.proofs.AnswerLaws.{answer-at-most}
+use Rattle.unit_text.specs.Session.{longestAnswer}
 
-pub reply-length : (r : Reply Answer) → length (replyBytes r) ≤ 43
+pub reply-length : (r : Reply Answer) → length (replyBytes r) ≤ longestAnswer
 unfolding replyBytes
 reply-length (accepted a) = answer-at-most a
 reply-length (refused n) = omega arith
 
 -- more room than 43 changes nothing
-module _ (u : Unit) (room : ℕ) (enough : 43 ≤ room) where
-  entered : (s : Replied) (r : Reply Answer) → ifRoom u room s r ≡ ifRoom u 43 s r
+module _ (u : Unit) (room : ℕ) (enough : longestAnswer ≤ room) where
+  entered : (s : Replied) (r : Reply Answer) → ifRoom u room s r ≡ ifRoom u longestAnswer s r
   entered s (refused n) = refl
   entered s (accepted a) =
-      rw (le-leb (length (answerBytes a)) room (omega (arith, answer-at-most a)), le-leb (length (answerBytes a)) 43 (answer-at-most a))
+      rw (le-leb (length (answerBytes a)) room (omega (arith, answer-at-most a)), le-leb (length (answerBytes a)) longestAnswer (answer-at-most a))
 
-  read : (r : Reply Record) → callOn u room r ≡ callOn u 43 r
+  read : (r : Reply Record) → callOn u room r ≡ callOn u longestAnswer r
   read (refused n) = refl
   read (accepted r) = entered (enter u r) (enter u r .reply)
 
-  pub room-enough : (bytes : List ℕ) → callOf u bytes room ≡ callOf u bytes 43
+  pub room-enough : (bytes : List ℕ) → callOf u bytes room ≡ callOf u bytes longestAnswer
   unfolding callOf
   room-enough bytes = read (readRecord bytes)

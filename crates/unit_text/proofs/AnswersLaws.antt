@@ -31,34 +31,34 @@ use Rattle.esc_unit.specs.declared.unit.Unit.{Unit}
 use Rattle.esc_records.proofs.AnswerLaws.{answer-at-most}
 use Rattle.esc_unit.proofs.StepLaws.{steps-answered, steps-entered}
 use Rattle.esc_unit.proofs.UnitLaws.{call-admission}
-use Rattle.unit_text.specs.Session.{answerOn}
-use Rattle.unit_text.specs.Answering.{takenBy, Answers}
+use Rattle.unit_text.specs.Session.{answerOn, longestAnswer}
+use Rattle.unit_text.specs.Answering.{admittedBy, Answers}
 
-answer-taken : (u : Unit) (l : Reply (List ℕ)) → answerOn u l ≡ onAdmitted u 43 (takenBy (u .opened) l)
-answer-taken u (refused n) = refl
-answer-taken u (accepted s) = call-admission u s 43
+answer-admitted : (u : Unit) (l : Reply (List ℕ)) → answerOn u l ≡ onAdmitted u longestAnswer (admittedBy (u .opened) l)
+answer-admitted u (refused n) = refl
+answer-admitted u (accepted s) = call-admission u s longestAnswer
 
-held : (m : EscManager) (b : Books) (x t : ℕ) → ltb (m .parser .len) 9 ≡ true
+only-collected : (m : EscManager) (b : Books) (x t : ℕ) → ltb (m .parser .len) 9 ≡ true
     → stepOf m b (kind.WireByte x t) ≡ stepped (setParser (collected (m .parser) x .parser) (heardBy m t)) b (answer.Wire wire.None)
 unfolding stepOf
-held m b x t few = ap (λ (r : Received). wireStepped (r .manager) b t (r .answer)) (pushed-collected m x t few)
+only-collected m b x t few = ap (λ (r : Received). wireStepped (r .manager) b t (r .answer)) (pushed-collected m x t few)
 
 module _ (u : Unit) (l : Reply (List ℕ)) where
-  pub answers-refused : (n : ℕ) → takenBy (u .opened) l ≡ refused n → Answers u l u (n ∷ [])
+  pub answers-refused : (n : ℕ) → admittedBy (u .opened) l ≡ refused n → Answers u l u (n ∷ [])
   unfolding replyBytes
   answers-refused n e =
-      let by : answerOn u l ≡ refusing u n = answer-taken u l ∙ ap (onAdmitted u 43) e in
+      let by : answerOn u l ≡ refusing u n = answer-admitted u l ∙ ap (onAdmitted u longestAnswer) e in
       record { unit = sym (ap (λ (k : Replied). k .unit) by); bytes = sym (ap (λ (k : Replied). replyBytes (k .reply)) by) }
 
-  module _ (r : Record) (e : takenBy (u .opened) l ≡ accepted r) where
+  module _ (r : Record) (e : admittedBy (u .opened) l ≡ accepted r) where
     answers-stepped : (s : Stepped) → stepOf (u .manager) (u .books) r ≡ s → Answers u l (s .unit) (answerBytes (s .answer))
     unfolding replyBytes
     answers-stepped s q =
         let by : answerOn u l ≡ accepting s =
-        answer-taken u l
-        ∙ ap (onAdmitted u 43) e
-        ∙ ap (λ (x : Stepped). pick (leb (length (answerBytes (x .answer))) 43) (accepting x) (refusing u 9)) q
-        ∙ ap (λ (b : Bool). pick b (accepting s) (refusing u 9)) (le-leb (length (answerBytes (s .answer))) 43 (answer-at-most (s .answer))) in
+        answer-admitted u l
+        ∙ ap (onAdmitted u longestAnswer) e
+        ∙ ap (λ (x : Stepped). pick (leb (length (answerBytes (x .answer))) longestAnswer) (accepting x) (refusing u 9)) q
+        ∙ ap (λ (b : Bool). pick b (accepting s) (refusing u 9)) (le-leb (length (answerBytes (s .answer))) longestAnswer (answer-at-most (s .answer))) in
         record { unit = sym (ap (λ (k : Replied). k .unit) by); bytes = sym (ap (λ (k : Replied). replyBytes (k .reply)) by) }
 
     -- the manager has the answer, or the books have it
@@ -70,9 +70,10 @@ module _ (u : Unit) (l : Reply (List ℕ)) where
         → Answers u l (unitOf (managedBy (u .manager) r .manager) (enteredIn (u .books) n .books)) (answerBytes (enteredIn (u .books) n .answer))
     answers-entered n q = answers-stepped _ (steps-entered (u .manager) (u .books) r n q)
 
-  -- a byte that the parser only holds
-  pub answers-held : (x t : ℕ) → takenBy (u .opened) l ≡ accepted (kind.WireByte x t) → ltb (u .manager .parser .len) 9 ≡ true
+  -- a byte that the parser only collects
+  pub answers-collected : (x t : ℕ) → admittedBy (u .opened) l ≡ accepted (kind.WireByte x t) → ltb (u .manager .parser .len) 9 ≡ true
       → Answers u l (unitOf (setParser (collected (u .manager .parser) x .parser) (heardBy (u .manager) t)) (u .books)) (0x00 ∷ 0x00 ∷ [])
   unfolding answerBytes bodyBytes wireBytes
-  answers-held x t e few =
-      answers-stepped (kind.WireByte x t) e (stepped (setParser (collected (u .manager .parser) x .parser) (heardBy (u .manager) t)) (u .books) (answer.Wire wire.None)) (held (u .manager) (u .books) x t few)
+  answers-collected x t e few =
+      answers-stepped (kind.WireByte x t) e (stepped (setParser (collected (u .manager .parser) x .parser) (heardBy (u .manager) t)) (u .books)
+      (answer.Wire wire.None)) (only-collected (u .manager) (u .books) x t few)

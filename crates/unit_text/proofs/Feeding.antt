@@ -13,12 +13,12 @@ use Rattle.base.proofs.BigEndianLaws.{overwrite-append}
 use Rattle.esc_unit.specs.Unit.{Replied}
 use Rattle.esc_records.specs.Answer.{replyBytes}
 use Rattle.esc_unit.specs.declared.unit.Unit.{Unit}
-use Rattle.unit_text.specs.Line.{lineEnd, readLine, printedLine}
+use Rattle.unit_text.specs.Line.{lineEnd, readLine, printedLine, longestRecord, mostHeld}
 use Rattle.unit_text.specs.Session.{answerOn, answerLine, unitAfter, lineText}
 use Rattle.unit_text.specs.Stream.{Streamed, after, printed, taken, feedOf, fedOutput, longestLine}
-use Rattle.unit_text.specs.Cut.{firstLine, CutFrom}
+use Rattle.unit_text.specs.NextLine.{firstLine, NextFrom}
 use Rattle.unit_text.specs.Answering.{Answers, PrintedAt}
-use Rattle.unit_text.specs.declared.cut.Cut.the-variants.{Open}
+use Rattle.unit_text.specs.declared.next_line.NextLine.the-variants.{Open}
 use Rattle.base.proofs.PutLaws.{overwrite-none}
 use Rattle.unit_text.proofs.LinesLaws.{Unended}
 use Rattle.unit_text.proofs.FirstLine.{first-unended, first-split}
@@ -27,9 +27,9 @@ use Rattle.unit_text.proofs.LineTurn.{after-held, after-line, printed-p
 
 pub record Feeding (s : Streamed) (chunk out₀ : List ℕ) (unit : Unit) (line : List ℕ) (held : ℕ) (bytes out : List ℕ) (used written : ℕ) : Type 0 where
   pub within : used ≤ length chunk
-  pub buffer : length line ≡ 59
-  pub holds : held ≤ 59
-  pub room : length bytes ≡ 29
+  pub buffer : length line ≡ mostHeld
+  pub holds : held ≤ mostHeld
+  pub room : length bytes ≡ longestRecord
   pub long : length out ≡ length out₀
   pub stream : record { unit = unit; line = take held line } ≡ after s (take used chunk)
   pub count : written ≡ length (printed s (take used chunk))
@@ -38,7 +38,7 @@ pub record Feeding (s : Streamed) (chunk out₀ : List ℕ) (unit : Unit) (line 
   pub rest : taken s (length out₀) chunk ≡ used + taken (after s (take used chunk)) (length out₀ - written) (drop used chunk)
 
 -- at first
-pub feeding-none : (unit : Unit) (line : List ℕ) (held : ℕ) (chunk out bytes : List ℕ) → length line ≡ 59 → held ≤ 59 → length bytes ≡ 29
+pub feeding-none : (unit : Unit) (line : List ℕ) (held : ℕ) (chunk out bytes : List ℕ) → length line ≡ mostHeld → held ≤ mostHeld → length bytes ≡ longestRecord
     → Feeding (record { unit = unit; line = take held line }) chunk out unit line held bytes out 0 0
 unfolding after printed
 feeding-none unit line held chunk out bytes l h b =
@@ -57,7 +57,7 @@ feeding-none unit line held chunk out bytes l h b =
     }
 
 -- what is held never exceeds the buffer
-pub held-line : (line : List ℕ) (n held : ℕ) → length line ≡ 59 → held ≡ min n 59 → take n line ≡ take held line
+pub held-line : (line : List ℕ) (n held : ℕ) → length line ≡ mostHeld → held ≡ min n mostHeld → take n line ≡ take held line
 held-line line n held l e =
     below-or-not n 60
     (λ h. let same : n ≡ held = omega arith in ap (λ (m : ℕ). take m line) same)
@@ -86,7 +86,7 @@ module _ {s : Streamed} {chunk out₀ : List ℕ} {unit : Unit} {line : List ℕ
   abbrev begun : List ℕ
   begun = take held line
 
-  short : length begun ≤ 59
+  short : length begun ≤ mostHeld
   short = omega (arith, length-take-le held line (omega (arith, k .buffer, k .holds)), k .holds)
 
   -- a line and its LF are within the chunk
@@ -95,14 +95,16 @@ module _ {s : Streamed} {chunk out₀ : List ℕ} {unit : Unit} {line : List ℕ
 
   -- no room for a line more, or nothing left
   pub fed-stop : length out₀ - written < longestLine
-      → (record { stream = record { unit = unit; line = begun }; used = used; written = written } ≡ feedOf s chunk (length out₀)) × (out ≡ fedOutput s chunk out₀)
+      → (record { stream = record { unit = unit; line = begun }; used = used; written = written } ≡ feedOf s chunk (length out₀))
+      × (out ≡ fedOutput s chunk out₀)
   fed-stop h =
       let none : taken (after s (take used chunk)) (length out₀ - written) left ≡ 0 =
       taken-stop (after s (take used chunk)) (length out₀ - written) left (omega arith) in
       fed-by s chunk out₀ _ out used written (omega (arith, k .rest)) (k .within) (k .stream) (k .count) (k .text)
 
   pub fed-end : length chunk ≤ used
-      → (record { stream = record { unit = unit; line = begun }; used = used; written = written } ≡ feedOf s chunk (length out₀)) × (out ≡ fedOutput s chunk out₀)
+      → (record { stream = record { unit = unit; line = begun }; used = used; written = written } ≡ feedOf s chunk (length out₀))
+      × (out ≡ fedOutput s chunk out₀)
   unfolding taken
   fed-end h =
       let e : left ≡ [] = drop-of-length-le chunk h in
@@ -111,7 +113,7 @@ module _ {s : Streamed} {chunk out₀ : List ℕ} {unit : Unit} {line : List ℕ
 
   module _ (roomy : longestLine ≤ length out₀ - written) where
     -- the chunk ends before the line does
-    pub fed-open : (n : ℕ) (line′ bytes′ : List ℕ) → CutFrom begun left (Open n) line′ bytes′
+    pub fed-open : (n : ℕ) (line′ bytes′ : List ℕ) → NextFrom begun left (Open n) line′ bytes′
         → (record { stream = record { unit = unit; line = take n line′ }; used = length chunk; written = written } ≡ feedOf s chunk (length out₀))
         × (out ≡ fedOutput s chunk out₀)
     unfolding taken
@@ -175,14 +177,15 @@ module _ {s : Streamed} {chunk out₀ : List ℕ} {unit : Unit} {line : List ℕ
       taken-after : taken (after s (take used chunk)) (length out₀ - written) left
           ≡ next + taken (after s (take (used + next) chunk)) (length out₀ - written′) (drop (used + next) chunk)
       taken-after =
-          let rest : drop (length more + 1) left ≡ drop (used + next) chunk = drop-drop (length more + 1) used chunk ∙ ap (λ (n : ℕ). drop (used + n) chunk) (sym (behind)) in
+          let rest : drop (length more + 1) left ≡ drop (used + next) chunk = drop-drop (length more + 1) used chunk
+          ∙ ap (λ (n : ℕ). drop (used + n) chunk) (sym (behind)) in
           let room : length out₀ - written - length (lineText unit (begun ++ more)) ≡ length out₀ - written′ = omega (arith, next-place) in
           rw (← k .stream, ← stream-after, unit-after)
           (ap (taken (record { unit = unit; line = begun }) (length out₀ - written)) (first-split left (ended))
           ∙ taken-line unit begun more short (first-unended left) (length out₀ - written) (drop (length more + 1) left) roomy
           ∙ rw (rest, room) (omega (arith, behind)))
 
-      pub feeding-line : (line′ bytes′ : List ℕ) → length line′ ≡ 59 → length bytes′ ≡ 29 → length out′ ≡ length out
+      pub feeding-line : (line′ bytes′ : List ℕ) → length line′ ≡ mostHeld → length bytes′ ≡ longestRecord → length out′ ≡ length out
           → Feeding s chunk out₀ unit′ line′ 0 bytes′ out′ (used + next) written′
       feeding-line line′ bytes′ b l o =
           record {
@@ -198,6 +201,7 @@ module _ {s : Streamed} {chunk out₀ : List ℕ} {unit : Unit} {line : List ℕ
                 rw printed-after
                 (p .text
                 ∙ rw (said, k .text)
-                (overwrite-append 0 written (printed s (take used chunk)) (lineText unit (begun ++ more)) out₀ (omega (arith, k .count)) (omega (arith, next-place, room-after))));
+                (overwrite-append 0 written (printed s (take used chunk)) (lineText unit (begun ++ more)) out₀ (omega (arith, k .count))
+                (omega (arith, next-place, room-after))));
             rest = omega (arith, k .rest, taken-after);
           }

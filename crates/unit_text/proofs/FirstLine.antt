@@ -10,8 +10,8 @@ use lib.Dec.{eqb}
 use lib.ListN.{length, getD, take, drop, take-append-drop}
 use lib.Seq.{take-suc, take-all, drop-cons, length-take-le}
 use Rattle.base.specs.Choice.{pick}
-use Rattle.unit_text.specs.Line.{lineEnd}
-use Rattle.unit_text.specs.Cut.{firstLine, Holds, HeldTo}
+use Rattle.unit_text.specs.Line.{lineEnd, mostHeld}
+use Rattle.unit_text.specs.NextLine.{firstLine, BufferHolds, LineHeldTo}
 use Rattle.unit_text.proofs.LinesLaws.{Unended}
 use Rattle.unit_text.proofs.HoldLaws.{holds-front, holds-more}
 
@@ -44,9 +44,9 @@ module _ (chunk : List ℕ) (i : ℕ) (u : Unended (take i chunk)) where
 pub record Holding (begun chunk : List ℕ) (passed n : ℕ) (buffer : List ℕ) : Type 0 where
   pub within : passed ≤ length chunk
   pub unended : Unended (take passed chunk)
-  pub holds : Holds (begun ++ take passed chunk) n buffer
+  pub holds : BufferHolds (begun ++ take passed chunk) n buffer
 
-pub holding-none : (chunk buffer : List ℕ) (n : ℕ) → length buffer ≡ 59 → n ≤ 59 → Holding (take n buffer) chunk 0 n buffer
+pub holding-none : (chunk buffer : List ℕ) (n : ℕ) → length buffer ≡ mostHeld → n ≤ mostHeld → Holding (take n buffer) chunk 0 n buffer
 holding-none chunk buffer n room h =
     record {
       within = omega arith;
@@ -56,7 +56,7 @@ holding-none chunk buffer n room h =
 
 module _ {begun chunk : List ℕ} {passed n : ℕ} {buffer : List ℕ} (k : Holding begun chunk passed n buffer) where
   pub holding-more : (n′ : ℕ) (buffer′ : List ℕ) → passed < length chunk → (getD chunk passed 0 ≡ lineEnd → ⊥)
-      → Holds (take n buffer ++ getD chunk passed 0 ∷ []) n′ buffer′ → Holding begun chunk (passed + 1) n′ buffer′
+      → BufferHolds (take n buffer ++ getD chunk passed 0 ∷ []) n′ buffer′ → Holding begun chunk (passed + 1) n′ buffer′
   holding-more n′ buffer′ h e s =
       let t : take (passed + 1) chunk ≡ take passed chunk ++ getD chunk passed 0 ∷ [] = rw (add-one passed) (take-suc chunk passed 0 h) in
       record {
@@ -68,12 +68,12 @@ module _ {begun chunk : List ℕ} {passed n : ℕ} {buffer : List ℕ} (k : Hold
       }
 
   pub holding-ended : passed < length chunk → getD chunk passed 0 ≡ lineEnd
-      → HeldTo begun chunk (record { passed = passed; held = n }) buffer
+      → LineHeldTo begun chunk (record { passed = passed; held = n }) buffer
   holding-ended h e =
       let f = first-ended chunk passed (k .unended) h e in
       record { passed = rw (f, length-take-le passed chunk (k .within)); holds = rw f (k .holds) }
 
-  pub holding-open : length chunk ≤ passed → HeldTo begun chunk (record { passed = passed; held = n }) buffer
+  pub holding-open : length chunk ≤ passed → LineHeldTo begun chunk (record { passed = passed; held = n }) buffer
   holding-open h =
       let f = first-open chunk passed (k .unended) h in
       let t = take-all passed chunk h in

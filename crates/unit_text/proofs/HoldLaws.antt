@@ -6,41 +6,42 @@ use native.Mathlib.Omega.{arith}
 use native.Mathlib.Numerals.{add-one}
 use lib.ListN.{length, take, set, length-append, length-set}
 use lib.Seq.{length-take-le, take-all, take-append-le, take-suc-set}
-use Rattle.unit_text.specs.Cut.{Holds}
-use Rattle.unit_text.proofs.CutLine.{cut-more}
+use Rattle.unit_text.specs.NextLine.{BufferHolds}
+use Rattle.unit_text.specs.Line.{mostHeld}
+use Rattle.unit_text.proofs.HeldEnough.{enough-more}
 
-module _ (buffer : List ℕ) (n : ℕ) (room : length buffer ≡ 59) (within : n ≤ 59) where
+module _ (buffer : List ℕ) (n : ℕ) (room : length buffer ≡ mostHeld) (within : n ≤ mostHeld) where
   front : length (take n buffer) ≡ n
   front = length-take-le n buffer (omega arith)
 
-  pub holds-front : Holds (take n buffer) n buffer
-  holds-front = record { room = room; within = within; held = sym (take-all 59 (take n buffer) (omega (arith, front))) }
+  pub holds-front : BufferHolds (take n buffer) n buffer
+  holds-front = record { room = room; within = within; held = sym (take-all mostHeld (take n buffer) (omega (arith, front))) }
 
   -- one character more, where there is room for it and where there is none
-  pub holds-stored : (c : ℕ) → n < 59 → Holds (take n buffer ++ c ∷ []) (n + 1) (set buffer n c)
+  pub holds-stored : (c : ℕ) → n < mostHeld → BufferHolds (take n buffer ++ c ∷ []) (n + 1) (set buffer n c)
   holds-stored c h =
-      let l : length (take n buffer ++ c ∷ []) ≤ 59 = omega (arith, length-append (take n buffer) (c ∷ []), front) in
+      let l : length (take n buffer ++ c ∷ []) ≤ mostHeld = omega (arith, length-append (take n buffer) (c ∷ []), front) in
       record {
         room = simp length-set room;
         within = omega arith;
-        held = rw (add-one n, take-all 59 (take n buffer ++ c ∷ []) l) (take-suc-set buffer n c (omega arith));
+        held = rw (add-one n, take-all mostHeld (take n buffer ++ c ∷ []) l) (take-suc-set buffer n c (omega arith));
       }
 
-  pub holds-full : (c : ℕ) → 59 ≤ n → Holds (take n buffer ++ c ∷ []) n buffer
+  pub holds-full : (c : ℕ) → mostHeld ≤ n → BufferHolds (take n buffer ++ c ∷ []) n buffer
   holds-full c h =
-      let m : 59 ≤ length (take n buffer) = omega (arith, front) in
+      let m : mostHeld ≤ length (take n buffer) = omega (arith, front) in
       record {
         room = room;
         within = within;
-        held = sym (take-append-le 59 (take n buffer) (c ∷ []) m ∙ take-all 59 (take n buffer) (omega (arith, front)));
+        held = sym (take-append-le mostHeld (take n buffer) (c ∷ []) m ∙ take-all mostHeld (take n buffer) (omega (arith, front)));
       }
 
 -- a line goes on by the character that its buffer takes
-pub holds-more : (line : List ℕ) (n : ℕ) (buffer : List ℕ) (c n′ : ℕ) (buffer′ : List ℕ) → Holds line n buffer
-    → Holds (take n buffer ++ c ∷ []) n′ buffer′ → Holds (line ++ c ∷ []) n′ buffer′
+pub holds-more : (line : List ℕ) (n : ℕ) (buffer : List ℕ) (c n′ : ℕ) (buffer′ : List ℕ) → BufferHolds line n buffer
+    → BufferHolds (take n buffer ++ c ∷ []) n′ buffer′ → BufferHolds (line ++ c ∷ []) n′ buffer′
 holds-more line n buffer c n′ buffer′ h k =
     record {
       room = k .room;
       within = k .within;
-      held = k .held ∙ ap (λ (l : List ℕ). take 59 (l ++ c ∷ [])) (h .held) ∙ cut-more line c;
+      held = k .held ∙ ap (λ (l : List ℕ). take mostHeld (l ++ c ∷ [])) (h .held) ∙ enough-more line c;
     }

@@ -1,11 +1,11 @@
 -- Read in this order: digits and lines, read and printed; the session, in pieces too, and by the rules (to Traced); then the code's way: a line
--- that is read, held or cut (to WireRead), its answer, the loop over a chunk, the end, a whole text.
+-- that is held or read in place (to WireRead), its answer, the loop over a chunk, the end, a whole text.
 pub mod DigitLaws
 pub mod LineLaws
 pub mod PrintLaws
 pub mod RoundTrip
 pub mod LinesLaws
-pub mod CutLine
+pub mod HeldEnough
 pub mod AnswerLength
 pub mod StreamLaws
 pub mod SessionLaws
@@ -13,9 +13,9 @@ pub mod Traced
 pub mod LineLeft
 pub mod HoldLaws
 pub mod FirstLine
-pub mod CutLaws
+pub mod NextLineLaws
 pub mod PairsLaws
-pub mod WholeLine
+pub mod LineInPlace
 pub mod WireRead
 pub mod AnswersLaws
 pub mod LineTurn

@@ -11,26 +11,26 @@ use lib.Seq.{drop-cons, take-suc-set}
 use Rattle.base.specs.Reply.{accepted, refused}
 use Rattle.base.proofs.ByCases.{below-or-not}
 use Rattle.unit_text.specs.Digit.{digitOf, pairOf}
-use Rattle.unit_text.specs.Line.{allDigits, pairs, readLine}
+use Rattle.unit_text.specs.Line.{allDigits, pairs, readLine, widest}
 use Rattle.unit_text.proofs.PairsLaws.{pair-bad}
 
 module _ (line : List ℕ) where
-  pub read-wide : 58 < length line → readLine line ≡ refused 1
+  pub read-wide : widest < length line → readLine line ≡ refused 1
   unfolding readLine
-  read-wide h = rw (lt-leb (length line) 58 h)
+  read-wide h = rw (lt-leb (length line) widest h)
 
-  module _ (fits : length line ≤ 58) where
+  module _ (fits : length line ≤ widest) where
     pub read-digit : allDigits line ≡ false → readLine line ≡ refused 2
     unfolding readLine
-    read-digit e = rw (le-leb (length line) 58 fits, e)
+    read-digit e = rw (le-leb (length line) widest fits, e)
 
     pub read-half : allDigits line ≡ true → length line % 2 ≡ 1 → readLine line ≡ refused 3
     unfolding readLine
-    read-half e o = rw (le-leb (length line) 58 fits, e, ne-eqb (length line % 2) 0 (λ z. omega arith))
+    read-half e o = rw (le-leb (length line) widest fits, e, ne-eqb (length line % 2) 0 (λ z. omega arith))
 
     pub read-whole : allDigits line ≡ true → length line % 2 ≡ 0 → readLine line ≡ accepted (pairs line)
     unfolding readLine
-    read-whole e o = rw (le-leb (length line) 58 fits, e, eq-eqb (length line % 2) 0 o)
+    read-whole e o = rw (le-leb (length line) widest fits, e, eq-eqb (length line % 2) 0 o)
 
 module _ (c : ℕ) (line : List ℕ) where
   pub all-bad : 16 ≤ digitOf c → allDigits (c ∷ line) ≡ false

@@ -6,15 +6,15 @@ use native.Mathlib.Omega.{arith}
 use lib.ListN.{length, getD, set, take, drop, length-set, drop-of-length-le}
 use Rattle.base.specs.Reply.{accepted, refused}
 use Rattle.unit_text.specs.Digit.{digitOf, pairOf}
-use Rattle.unit_text.specs.Line.{allDigits, pairs, readLine}
+use Rattle.unit_text.specs.Line.{allDigits, pairs, readLine, longestRecord, widest}
 use Rattle.unit_text.proofs.LineLaws.{read-digit, read-half, read-whole, first-bad, two-bad, both-good, last-good, pairs-more}
 use Rattle.unit_text.proofs.PairsLaws.{pair-read}
 
 pub record Left (line bytes : List ℕ) (place n : ℕ) : Type 0 where
   pub half : place ≡ 2 * n
   pub within : place ≤ length line
-  pub fits : length line ≤ 58
-  pub room : length bytes ≡ 29
+  pub fits : length line ≤ widest
+  pub room : length bytes ≡ longestRecord
   pub digits : allDigits line ≡ allDigits (drop place line)
   pub put : pairs line ≡ take n bytes ++ pairs (drop place line)
 
@@ -49,5 +49,5 @@ module _ {line bytes : List ℕ} {place n : ℕ} (l : Left line bytes place n) w
       ∙ ap accepted (l .put ∙ rw e (append-nil (take n bytes)))
 
 -- nothing is read at first
-pub left-all : (line bytes : List ℕ) → length line ≤ 58 → length bytes ≡ 29 → Left line bytes 0 0
+pub left-all : (line bytes : List ℕ) → length line ≤ widest → length bytes ≡ longestRecord → Left line bytes 0 0
 left-all line bytes h r = record { half = refl; within = omega arith; fits = h; room = r; digits = refl; put = refl }

@@ -7,22 +7,22 @@ use borrow.Author.Tests.{le-leb, lt-leb}
 use lib.ListN.{length, take}
 use lib.Seq.{take-all}
 use Rattle.esc_unit.specs.declared.unit.Unit.{Unit}
-use Rattle.unit_text.specs.Line.{lineEnd}
+use Rattle.unit_text.specs.Line.{lineEnd, mostHeld}
 use Rattle.unit_text.specs.Session.{unitAfter, lineText}
 use Rattle.unit_text.specs.Stream.{Streamed, afterOne, after, printed, taken, longestLine}
-use Rattle.unit_text.proofs.CutLine.{cut-more, cut-unit, cut-text}
+use Rattle.unit_text.proofs.HeldEnough.{enough-more, enough-unit, enough-text}
 use Rattle.unit_text.proofs.LinesLaws.{Unended}
 use Rattle.unit_text.proofs.StreamLaws.{after-append, printed-append, after-end, printed-end, after-other, printed-other}
 
 -- a stream that has passed `line`, of a line that is not ended
 abbrev passed : Unit → List ℕ → Streamed
-passed u line = record { unit = u; line = take 59 line }
+passed u line = record { unit = u; line = take mostHeld line }
 
 past : (u : Unit) (line more : List ℕ) → Unended more → after (passed u line) more ≡ passed u (line ++ more)
 unfolding after
 past u line [] n = rw (append-nil line)
 past u line (c ∷ more) n =
-    rw (after-other (passed u line) c (n .0), cut-more line c)
+    rw (after-other (passed u line) c (n .0), enough-more line c)
     (past u (line ++ c ∷ []) more (n .1) ∙ ap (passed u) (append-assoc line (c ∷ []) more))
 
 pub printed-past : (s : Streamed) (more : List ℕ) → Unended more → printed s more ≡ []
@@ -45,22 +45,22 @@ unfolding taken
 taken-stop s room [] h = refl
 taken-stop s room (c ∷ text) h = rw (lt-leb longestLine room (omega arith))
 
-module _ (u : Unit) (line more : List ℕ) (short : length line ≤ 59) (n : Unended more) where
-  pub after-held : after (record { unit = u; line = line }) more ≡ record { unit = u; line = take 59 (line ++ more) }
-  after-held = ap (λ (l : List ℕ). after (record { unit = u; line = l }) more) (sym (take-all 59 line short)) ∙ past u line more n
+module _ (u : Unit) (line more : List ℕ) (short : length line ≤ mostHeld) (n : Unended more) where
+  pub after-held : after (record { unit = u; line = line }) more ≡ record { unit = u; line = take mostHeld (line ++ more) }
+  after-held = ap (λ (l : List ℕ). after (record { unit = u; line = l }) more) (sym (take-all mostHeld line short)) ∙ past u line more n
 
   pub after-line : after (record { unit = u; line = line }) (more ++ lineEnd ∷ []) ≡ record { unit = unitAfter u (line ++ more); line = [] }
   unfolding after
   after-line =
       after-append (record { unit = u; line = line }) more (lineEnd ∷ [])
-      ∙ rw after-held (after-end (passed u (line ++ more)) lineEnd refl ∙ rw (cut-unit u (line ++ more)))
+      ∙ rw after-held (after-end (passed u (line ++ more)) lineEnd refl ∙ rw (enough-unit u (line ++ more)))
 
   pub printed-line : printed (record { unit = u; line = line }) (more ++ lineEnd ∷ []) ≡ lineText u (line ++ more)
   unfolding printed
   printed-line =
       printed-append (record { unit = u; line = line }) more (lineEnd ∷ [])
       ∙ rw (printed-past (record { unit = u; line = line }) more n, after-held, append-nil)
-      (printed-end (passed u (line ++ more)) lineEnd refl ∙ cut-text u (line ++ more))
+      (printed-end (passed u (line ++ more)) lineEnd refl ∙ enough-text u (line ++ more))
 
   pub taken-line : (room : ℕ) (text : List ℕ) → longestLine ≤ room
       → taken (record { unit = u; line = line }) room (more ++ lineEnd ∷ text)
@@ -68,6 +68,12 @@ module _ (u : Unit) (line more : List ℕ) (short : length line ≤ 59) (n : Une
   unfolding taken
   taken-line room text h =
       taken-past (record { unit = u; line = line }) room more (lineEnd ∷ text) h n
-      ∙ rw
-      (after-held, le-leb longestLine room h, after-end (passed u (line ++ more)) lineEnd refl, printed-end (passed u (line ++ more)) lineEnd refl, cut-unit u (line ++ more), cut-text u (line ++ more))
+      ∙ rw (
+        after-held,
+        le-leb longestLine room h,
+        after-end (passed u (line ++ more)) lineEnd refl,
+        printed-end (passed u (line ++ more)) lineEnd refl,
+        enough-unit u (line ++ more),
+        enough-text u (line ++ more),
+      )
       refl

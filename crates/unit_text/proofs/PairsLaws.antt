@@ -8,6 +8,7 @@ use native.Mathlib.Numerals.{add-one}
 use borrow.Author.Tests.{lt-ltb, le-ltb}
 use lib.ListN.{length, getD, take}
 use lib.Seq.{take-suc}
+use Rattle.base.proofs.Both.{and-left, and-right}
 use Rattle.base.proofs.ByCases.{below-or-not}
 use Rattle.unit_text.specs.Digit.{digitOf, isDigit, pairOf}
 use Rattle.unit_text.specs.Line.{allDigits, pairs}
@@ -46,17 +47,12 @@ module _ (c d : ℕ) where
   pub pair-bad : 256 ≤ pairOf c d → digitOf c < 16 → 16 ≤ digitOf d
   pair-bad h g = below-or-not (digitOf d) 16 (λ k. absurd (omega (arith, pair-both g k))) (λ b. b)
 
-both : (a b : Bool) → a && b ≡ true → (a ≡ true) × (b ≡ true)
-both true b e = (refl, e)
-both false b e = absurd (false≢true e)
-
 -- LF is no digit
 pub unended-digits : (line : List ℕ) → allDigits line ≡ true → Unended line
 unfolding allDigits digitOf
 unended-digits [] e = tt
 unended-digits (c ∷ line) e =
-    let good = both (isDigit c) (allDigits line) e in
-    (λ lf. false≢true (sym (ap isDigit lf) ∙ good .0), unended-digits line (good .1))
+    (λ lf. false≢true (sym (ap isDigit lf) ∙ and-left (isDigit c) _ e), unended-digits line (and-right (isDigit c) _ e))
 
 -- two digits more
 module _ (c d : ℕ) where
@@ -64,8 +60,7 @@ module _ (c d : ℕ) where
   unfolding allDigits
   digits-two [] e gc gd = rw (lt-ltb (digitOf c) 16 gc, lt-ltb (digitOf d) 16 gd)
   digits-two (a ∷ line) e gc gd =
-      let good = both (isDigit a) (allDigits line) e in
-      rw (good .0) (digits-two line (good .1) gc gd)
+      rw (and-left (isDigit a) _ e) (digits-two line (and-right (isDigit a) _ e) gc gd)
 
   pub pairs-two : (line : List ℕ) → length line % 2 ≡ 0 → pairs (line ++ c ∷ d ∷ []) ≡ pairs line ++ (digitOf c * 16 + digitOf d) ∷ []
   unfolding pairs
@@ -78,7 +73,8 @@ module _ (chunk : List ℕ) (place : ℕ) (h : place + 1 < length chunk) where
   pub take-two : take (place + 2) chunk ≡ take place chunk ++ getD chunk place 0 ∷ getD chunk (place + 1) 0 ∷ []
   take-two =
       let two : place + 2 ≡ suc (suc place) = omega arith in
-      rw (two, take-suc chunk (suc place) 0 (omega arith), take-suc chunk place 0 (omega arith), add-one place) (append-assoc (take place chunk) (getD chunk place 0 ∷ []) (getD chunk (suc place) 0 ∷ []))
+      rw (two, take-suc chunk (suc place) 0 (omega arith), take-suc chunk place 0 (omega arith), add-one place)
+      (append-assoc (take place chunk) (getD chunk place 0 ∷ []) (getD chunk (suc place) 0 ∷ []))
 
   pub digits-more : allDigits (take place chunk) ≡ true → digitOf (getD chunk place 0) < 16 → digitOf (getD chunk (place + 1) 0) < 16
       → allDigits (take (place + 2) chunk) ≡ true

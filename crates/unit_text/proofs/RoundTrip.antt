@@ -7,7 +7,7 @@ use native.Mathlib.Omega.{arith}
 use lib.ListN.{length, getD}
 use Rattle.base.specs.Reply.{accepted}
 use Rattle.unit_text.specs.Digit.{digitOf, glyphOf}
-use Rattle.unit_text.specs.Line.{allDigits, pairs, hexOf, readLine}
+use Rattle.unit_text.specs.Line.{allDigits, pairs, hexOf, readLine, longestRecord}
 use Rattle.unit_text.proofs.DigitLaws.{digit-of-glyph}
 use Rattle.unit_text.proofs.LineLaws.{all-good, read-whole}
 use Rattle.unit_text.proofs.PrintLaws.{hex-length}
@@ -42,7 +42,7 @@ unfolding pairs hexOf
 pairs-of-hex [] h = refl
 pairs-of-hex (b ∷ bytes) h = rw (whole b (h 0 (omega arith)), pairs-of-hex bytes (later b bytes h))
 
-pub read-printed : (bytes : List ℕ) → Bytes bytes → length bytes ≤ 29 → readLine (hexOf bytes) ≡ accepted bytes
+pub read-printed : (bytes : List ℕ) → Bytes bytes → length bytes ≤ longestRecord → readLine (hexOf bytes) ≡ accepted bytes
 read-printed bytes h l =
     read-whole (hexOf bytes) (omega (arith, hex-length bytes)) (all-digits bytes h) (omega (arith, hex-length bytes))
     ∙ ap accepted (pairs-of-hex bytes h)

@@ -8,16 +8,16 @@ use borrow.Author.Tests.{ne-eqb, eqb-true, eqb-false}
 use lib.Dec.{eqb}
 use lib.ListN.{length, take}
 use Rattle.esc_unit.specs.declared.unit.Unit.{Unit}
-use Rattle.unit_text.specs.Line.{lineEnd}
+use Rattle.unit_text.specs.Line.{lineEnd, mostHeld}
 use Rattle.unit_text.specs.Session.{linesFrom, unitAfter, lineText, linesText, sessionText}
 use Rattle.unit_text.specs.Stream.{Streamed, atStart, afterOne, printedAt, after, printed, printedAtEnd}
-use Rattle.unit_text.proofs.CutLine.{cut-more, cut-unit, cut-text}
+use Rattle.unit_text.proofs.HeldEnough.{enough-more, enough-unit, enough-text}
 use Rattle.unit_text.proofs.LinesLaws.{lines-at-end, lines-at-other}
 use Rattle.unit_text.proofs.StreamLaws.{after-end, printed-end, after-other, printed-other}
 
 -- a stream that has passed `line`, of a line that is not ended
 abbrev passed : Unit → List ℕ → Streamed
-passed u line = record { unit = u; line = take 59 line }
+passed u line = record { unit = u; line = take mostHeld line }
 
 abbrev all : Streamed → List ℕ → List ℕ
 all s text = printed s text ++ printedAtEnd (after s text)
@@ -34,14 +34,14 @@ says-end : (text : List ℕ) → Says text → (u : Unit) (line : List ℕ) (c :
 unfolding linesText
 says-end text ih u line c e =
     at-once (passed u line) c text
-    ∙ rw (after-end (passed u line) c e, printed-end (passed u line) c e, cut-unit u line, cut-text u line, lines-at-end line text c e)
+    ∙ rw (after-end (passed u line) c e, printed-end (passed u line) c e, enough-unit u line, enough-text u line, lines-at-end line text c e)
     (ap (λ (l : List ℕ). lineText u line ++ l) (ih (unitAfter u line) []))
 
 says-other : (text : List ℕ) → Says text → (u : Unit) (line : List ℕ) (c : ℕ) → (c ≡ lineEnd → ⊥)
     → all (passed u line) (c ∷ text) ≡ linesText u (linesFrom line (c ∷ text))
 says-other text ih u line c n =
     at-once (passed u line) c text
-    ∙ rw (after-other (passed u line) c n, printed-other (passed u line) c n, cut-more line c, lines-at-other line text c n)
+    ∙ rw (after-other (passed u line) c n, printed-other (passed u line) c n, enough-more line c, lines-at-other line text c n)
     (ih u (line ++ c ∷ []))
 
 says-none : Says []
@@ -49,8 +49,8 @@ unfolding printed after printedAtEnd linesFrom linesText
 says-none u [] = refl
 says-none u (c ∷ line) =
     let some : eqb (length (c ∷ line)) 0 ≡ false = ne-eqb (length (c ∷ line)) 0 (λ z. omega arith) in
-    let some-cut : eqb (length (take 59 (c ∷ line))) 0 ≡ false = ne-eqb (length (take 59 (c ∷ line))) 0 (λ z. omega arith) in
-    rw (some, some-cut, cut-text u (c ∷ line), append-nil)
+    let some-held : eqb (length (take mostHeld (c ∷ line))) 0 ≡ false = ne-eqb (length (take mostHeld (c ∷ line))) 0 (λ z. omega arith) in
+    rw (some, some-held, enough-text u (c ∷ line), append-nil)
 
 says-by : (text : List ℕ) → Says text → (u : Unit) (line : List ℕ) (c : ℕ) (b : Bool) → eqb c lineEnd ≡ b
     → all (passed u line) (c ∷ text) ≡ linesText u (linesFrom line (c ∷ text))

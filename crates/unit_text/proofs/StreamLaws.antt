@@ -12,7 +12,7 @@ use lib.Seq.{take-suc, take-add}
 use Rattle.base.specs.Choice.{pick}
 use Rattle.esc_records.specs.Answer.{replyBytes}
 use Rattle.esc_unit.specs.declared.unit.Unit.{Unit}
-use Rattle.unit_text.specs.Line.{lineEnd}
+use Rattle.unit_text.specs.Line.{lineEnd, mostHeld}
 use Rattle.unit_text.specs.Session.{answerLine, unitAfter, lineText}
 use Rattle.unit_text.specs.Stream.{Streamed, afterOne, printedAt, after, printed, printedAtEnd, longestLine}
 use Rattle.unit_text.proofs.AnswerLength.{reply-length}
@@ -42,7 +42,7 @@ module _ (s : Streamed) (c : ℕ) where
   unfolding printedAt
   printed-end e = rw (eq-eqb c lineEnd e)
 
-  pub after-other : (c ≡ lineEnd → ⊥) → afterOne s c ≡ record { unit = s .unit; line = take 59 (s .line ++ c ∷ []) }
+  pub after-other : (c ≡ lineEnd → ⊥) → afterOne s c ≡ record { unit = s .unit; line = take mostHeld (s .line ++ c ∷ []) }
   unfolding afterOne
   after-other n = rw (ne-eqb c lineEnd n)
 

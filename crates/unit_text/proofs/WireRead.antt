@@ -14,12 +14,12 @@ use Rattle.esc_records.specs.Record.{recordOf, readRecord}
 use Rattle.esc_records.specs.declared.record.Record.the-variants as kind
 use Rattle.base.proofs.NumberLaws.{number-more, below-more}
 use Rattle.esc_records.proofs.RecordLaws.{read-accepted}
-use Rattle.esc_unit.proofs.UnitLaws.{admitted-open}
+use Rattle.esc_unit.proofs.UnitLaws.{admitted-read}
 use Rattle.unit_text.specs.Digit.{digitOf, pairOf}
 use Rattle.unit_text.specs.Line.{lineEnd, allDigits, pairs}
-use Rattle.unit_text.specs.Cut.{firstLine}
-use Rattle.unit_text.specs.Answering.{takenBy}
-use Rattle.unit_text.specs.WireLine.{WireFrom, HeldFrom}
+use Rattle.unit_text.specs.NextLine.{firstLine}
+use Rattle.unit_text.specs.Answering.{admittedBy}
+use Rattle.unit_text.specs.WireLine.{WireFrom, CollectedFrom}
 use Rattle.unit_text.specs.declared.wire_line.WireLine.{WireLine}
 use Rattle.unit_text.specs.declared.wire_line.WireLine.the-variants as wire
 use Rattle.unit_text.proofs.FirstLine.{first-ended}
@@ -93,9 +93,15 @@ module _ (chunk : List ℕ) (long : 20 < length chunk) where
         let time : numberAt 8 (spelt chunk) 2 ≡ t = rw e at (sym (r .time)) in
         let record-read : readRecord (spelt chunk) ≡ accepted (kind.WireByte v t) =
         wire-record (spelt chunk) (pairs-length (take 20 chunk) 10 all) first ∙ rw (second, time) in
-        record { long = long; ends = rw line all; taken = rw line (ap (takenBy true) (read-whole (take 20 chunk) (omega (arith, all)) digits (omega (arith, all))) ∙ admitted-open true (spelt chunk) _ record-read refl) }
+        record {
+          long = long;
+          ends = rw line all;
+          admitted = rw line
+              (ap (admittedBy true) (read-whole (take 20 chunk) (omega (arith, all)) digits (omega (arith, all)))
+              ∙ admitted-read true (spelt chunk) _ true record-read refl);
+        }
 
-pub held-wire : (held : ℕ) (opened : Bool) (p : StreamParser) (chunk : List ℕ) (r : WireLine) → held ≡ 0 → opened ≡ true → ltb (p .len) 9 ≡ true
-    → WireFrom chunk r → HeldFrom held opened p chunk r
-held-wire held opened p chunk wire.Other n o f w = tt
-held-wire held opened p chunk (wire.Byte x t) n o f w = record { none = n; before = o; few = f; line = w }
+pub collected-wire : (held : ℕ) (opened : Bool) (p : StreamParser) (chunk : List ℕ) (r : WireLine) → held ≡ 0 → opened ≡ true → ltb (p .len) 9 ≡ true
+    → WireFrom chunk r → CollectedFrom held opened p chunk r
+collected-wire held opened p chunk wire.Other n o f w = tt
+collected-wire held opened p chunk (wire.Byte x t) n o f w = record { none = n; before = o; few = f; line = w }

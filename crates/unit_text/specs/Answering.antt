@@ -14,9 +14,9 @@ use Rattle.unit_text.specs.Line.{printedLine}
 use Rattle.unit_text.specs.Session.{answerOn}
 
 -- 1 to 3 by the line, 4 to 8 by the record and whether the unit was opened
-abbrev pub takenBy : Bool → Reply (List ℕ) → Reply Record
-takenBy opened (refused n) = refused n
-takenBy opened (accepted record-bytes) = admittedOf opened record-bytes
+abbrev pub admittedBy : Bool → Reply (List ℕ) → Reply Record
+admittedBy opened (refused n) = refused n
+admittedBy opened (accepted record-bytes) = admittedOf opened record-bytes
 
 -- the unit after a line, and the bytes of its reply
 pub record Answers (u : Unit) (line : Reply (List ℕ)) (after : Unit) (said : List ℕ) : Type 0 where

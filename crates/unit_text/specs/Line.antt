@@ -14,9 +14,17 @@ use Rattle.unit_text.specs.declared.line.LineRead.the-variants as read
 abbrev pub lineEnd : ℕ
 lineEnd = 0x0a
 
--- the widest line: two characters for each of the 29 bytes of the longest record
+-- as many bytes as any record has
+abbrev pub longestRecord : ℕ
+longestRecord = 29
+
+-- the widest line: two characters for each byte of the longest record
 abbrev pub widest : ℕ
 widest = 58
+
+-- as much as is held of a line: one character more than the widest has, so that a line that is too wide needs no mark
+abbrev pub mostHeld : ℕ
+mostHeld = 59
 
 unfoldable pub allDigits : List ℕ → Bool
 allDigits [] = true

@@ -7,7 +7,7 @@ use Rattle.base.specs.Choice.{pick}
 use Rattle.base.specs.BigEndian.{overwrite}
 use Rattle.esc_unit.specs.Unit.{neverOpened}
 use Rattle.esc_unit.specs.declared.unit.Unit.{Unit}
-use Rattle.unit_text.specs.Line.{lineEnd}
+use Rattle.unit_text.specs.Line.{lineEnd, mostHeld}
 use Rattle.unit_text.specs.Session.{unitAfter, lineText}
 
 -- the unit, and the start of the line that is not ended. 59 characters of it say as much as all: such a line is too wide
@@ -23,7 +23,7 @@ unfoldable pub afterOne : Streamed → ℕ → Streamed
 afterOne s c =
     pick (eqb c lineEnd)
     (record { unit = unitAfter (s .unit) (s .line); line = [] })
-    (record { unit = s .unit; line = take 59 (s .line ++ c ∷ []) })
+    (record { unit = s .unit; line = take mostHeld (s .line ++ c ∷ []) })
 
 unfoldable pub printedAt : Streamed → ℕ → List ℕ
 printedAt s c = pick (eqb c lineEnd) (lineText (s .unit) (s .line)) []

@@ -9,8 +9,8 @@ use Rattle.base.specs.Reply.{accepted}
 use Rattle.blheli_telemetry.specs.declared.parser.StreamParser.{StreamParser}
 use Rattle.esc_records.specs.declared.record.Record.the-variants as kind
 use Rattle.unit_text.specs.Line.{readLine}
-use Rattle.unit_text.specs.Cut.{firstLine}
-use Rattle.unit_text.specs.Answering.{takenBy}
+use Rattle.unit_text.specs.NextLine.{firstLine}
+use Rattle.unit_text.specs.Answering.{admittedBy}
 use Rattle.unit_text.specs.declared.wire_line.WireLine.{WireLine}
 use Rattle.unit_text.specs.declared.wire_line.WireLine.the-variants as wire
 
@@ -18,10 +18,10 @@ use Rattle.unit_text.specs.declared.wire_line.WireLine.the-variants as w
 pub record WireAt (chunk : List ℕ) (x t : ℕ) : Type 0 where
   pub long : 20 < length chunk
   pub ends : length (firstLine chunk) ≡ 20
-  pub taken : takenBy true (readLine (firstLine chunk)) ≡ accepted (kind.WireByte x t)
+  pub admitted : admittedBy true (readLine (firstLine chunk)) ≡ accepted (kind.WireByte x t)
 
--- besides, nothing of a line is held, the unit was opened, and its parser only holds the byte
-pub record HeldAt (held : ℕ) (opened : Bool) (p : StreamParser) (chunk : List ℕ) (x t : ℕ) : Type 0 where
+-- besides, nothing of a line is held, the unit was opened, and its parser only collects the byte
+pub record CollectedAt (held : ℕ) (opened : Bool) (p : StreamParser) (chunk : List ℕ) (x t : ℕ) : Type 0 where
   pub none : held ≡ 0
   pub before : opened ≡ true
   pub few : ltb (p .len) 9 ≡ true
@@ -31,6 +31,6 @@ abbrev pub WireFrom : List ℕ → WireLine → Type 0
 WireFrom chunk wire.Other = Unit {0}
 WireFrom chunk (wire.Byte x t) = WireAt chunk x t
 
-abbrev pub HeldFrom : ℕ → Bool → StreamParser → List ℕ → WireLine → Type 0
-HeldFrom held opened p chunk wire.Other = Unit {0}
-HeldFrom held opened p chunk (wire.Byte x t) = HeldAt held opened p chunk x t
+abbrev pub CollectedFrom : ℕ → Bool → StreamParser → List ℕ → WireLine → Type 0
+CollectedFrom held opened p chunk wire.Other = Unit {0}
+CollectedFrom held opened p chunk (wire.Byte x t) = CollectedAt held opened p chunk x t

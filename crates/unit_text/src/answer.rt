@@ -6,7 +6,8 @@ ghost use lib.ListN.{length};
 ghost use Rattle.esc_unit.specs.Admission.{admitted};
 ghost use Rattle.esc_records.specs.Answer.{answerBytes};
 ghost use Rattle.unit_text.specs.Line.{lineRead, recordLength};
-ghost use Rattle.unit_text.specs.Answering.{takenBy, PrintedAt};
+ghost use Rattle.unit_text.specs.Answering.{admittedBy, PrintedAt};
+ghost use Rattle.unit_text.specs.Stream.{longestLine};
 use crate::line::LineRead;
 use crate::line::print_line;
 use esc_records::Answer;
@@ -15,9 +16,9 @@ use esc_unit::Admitted;
 use esc_unit::admit;
 
 // The record that a line stands for, in front of `bytes`, if a unit that was opened, or was not, takes it.
-pub(crate) fn take(opened: bool, read: LineRead, bytes: &[u8]) -> Admitted
+pub(crate) fn admit_line(opened: bool, read: LineRead, bytes: &[u8]) -> Admitted
     requires { ⌜ recordLength read ≤ length (now bytes) ⌝ }
-    ensures { λ r. ⌜ admitted r ≡ takenBy opened (lineRead read (now (bytes .entry))) ⌝ }
+    ensures { λ r. ⌜ admitted r ≡ admittedBy opened (lineRead read (now (bytes .entry))) ⌝ }
 {
     match read {
         LineRead::Refused(number) => Admitted::Refused(number),
@@ -26,7 +27,7 @@ pub(crate) fn take(opened: bool, read: LineRead, bytes: &[u8]) -> Admitted
 }
 
 pub(crate) fn print_answer(answer: Answer, out: &mut [u8], at: usize) -> usize
-    requires { ⌜ at + 87 ≤ length (now out) ⌝ }
+    requires { ⌜ at + longestLine ≤ length (now out) ⌝ }
     ensures { λ r. ⌜ PrintedAt (answerBytes answer) at (now (out .entry)) r (now (out .exit)) ⌝ }
 {
     let text = answer_text(answer);
@@ -36,7 +37,7 @@ pub(crate) fn print_answer(answer: Answer, out: &mut [u8], at: usize) -> usize
 }
 
 pub(crate) fn print_refusal(number: u8, out: &mut [u8], at: usize) -> usize
-    requires { ⌜ at + 87 ≤ length (now out) ⌝ }
+    requires { ⌜ at + longestLine ≤ length (now out) ⌝ }
     ensures { λ r. ⌜ PrintedAt (number ∷ []) at (now (out .entry)) r (now (out .exit)) ⌝ }
 {
     let one = [number];
@@ -45,7 +46,7 @@ pub(crate) fn print_refusal(number: u8, out: &mut [u8], at: usize) -> usize
 
 // The answer to a 05 that brings nothing.
 pub(crate) fn print_nothing(out: &mut [u8], at: usize) -> usize
-    requires { ⌜ at + 87 ≤ length (now out) ⌝ }
+    requires { ⌜ at + longestLine ≤ length (now out) ⌝ }
     ensures { λ r. ⌜ PrintedAt (0x00 ∷ 0x00 ∷ []) at (now (out .entry)) r (now (out .exit)) ⌝ }
 {
     let nothing = [0u8; 2];

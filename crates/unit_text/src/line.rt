@@ -4,7 +4,7 @@ ghost use Prim.Native.Nat.{_+_, _*_, _≤_};
 ghost use lib.ListN.{length};
 ghost use Rattle.base.specs.BigEndian.{overwrite};
 ghost use Rattle.unit_text.specs.Digit.{DigitTabled};
-ghost use Rattle.unit_text.specs.Line.{readLine, printedLine, lineRead, recordLength};
+ghost use Rattle.unit_text.specs.Line.{readLine, printedLine, lineRead, recordLength, longestRecord};
 use crate::digit::NO_DIGIT;
 use crate::digit::glyph;
 use crate::pair::NO_BYTE;
@@ -27,8 +27,8 @@ pub(crate) enum LineRead {
 
 // Puts the bytes that a line stands for in front of `bytes`.
 pub(crate) fn read_line(digits: &[u8; 256], line: &[u8], bytes: &mut [u8]) -> LineRead
-    requires { ⌜ DigitTabled (now digits) × (length (now bytes) ≡ 29) ⌝ }
-    ensures { λ r. ⌜ (lineRead r (now (bytes .exit)) ≡ readLine (now (line .entry))) × (recordLength r ≤ 29) ⌝ }
+    requires { ⌜ DigitTabled (now digits) × (length (now bytes) ≡ longestRecord) ⌝ }
+    ensures { λ r. ⌜ (lineRead r (now (bytes .exit)) ≡ readLine (now (line .entry))) × (recordLength r ≤ longestRecord) ⌝ }
 {
     let count = line.len();
     if WIDEST < count {

@@ -6,20 +6,21 @@ ghost use lib.ListN.{length};
 ghost use Rattle.base.specs.Handed.{handedReply, handedOutput};
 ghost use Rattle.unit_text.specs.Stream.{atStart, feedOf, fedOutput, printedAtEnd};
 ghost use Rattle.unit_text.specs.Streams.{streamed, fed};
+ghost use Rattle.unit_text.specs.Line.{mostHeld};
 ghost use Rattle.base.specs.Handed.{handed};
+use crate::answer::admit_line;
 use crate::answer::print_answer;
 use crate::answer::print_nothing;
 use crate::answer::print_refusal;
-use crate::answer::take;
-use crate::cut::Cut;
-use crate::cut::HELD;
-use crate::cut::next_line;
 use crate::digit::digits;
 use crate::line::LINE_END;
 use crate::line::LONGEST_RECORD;
+use crate::next_line::HELD;
+use crate::next_line::NextLine;
+use crate::next_line::next_line;
 use crate::wire_line::WIRE_LINE;
 use crate::wire_line::WireLine;
-use crate::wire_line::held_byte;
+use crate::wire_line::collected_byte;
 use base::Handed;
 use base::hand;
 use esc_unit::Admitted;
@@ -88,7 +89,7 @@ impl Stream {
                 };
             }
             let parser = manager.parser;
-            let byte = held_byte(&digits, &chunk[used..], held, opened, parser);
+            let byte = collected_byte(&digits, &chunk[used..], held, opened, parser);
             match byte {
                 WireLine::Byte(byte, at_ms) => {
                     let collected = parser.collected(byte);
@@ -100,9 +101,9 @@ impl Stream {
                     used += WIRE_LINE + 1;
                 }
                 WireLine::Other => {
-                    let cut = next_line(&digits, &chunk[used..], &mut line, held, &mut bytes);
-                    match cut {
-                        Cut::Open(n) => {
+                    let found = next_line(&digits, &chunk[used..], &mut line, held, &mut bytes);
+                    match found {
+                        NextLine::Open(n) => {
                             let unit = Unit {
                                 opened,
                                 manager,
@@ -119,11 +120,11 @@ impl Stream {
                                 written,
                             };
                         }
-                        Cut::Line(read, next) => {
+                        NextLine::Ended(read, next) => {
                             held = 0;
                             used += next;
-                            let taken = take(opened, read, &bytes);
-                            match taken {
+                            let admission = admit_line(opened, read, &bytes);
+                            match admission {
                                 Admitted::Refused(number) => {
                                     written = print_refusal(number, out, written);
                                 }
@@ -182,7 +183,7 @@ impl Stream {
 
 // A line's buffer has no more than it can hold.
 fn at_most_held(n: usize) -> usize
-    ensures { λ r. ⌜ r ≡ min n 59 ⌝ }
+    ensures { λ r. ⌜ r ≡ min n mostHeld ⌝ }
 {
     if n < HELD { n } else { HELD }
 }

@@ -1,6 +1,6 @@
 // A line with a wire byte, as most lines of a session are: it is read straight into its numbers.
 ghost use Rattle.unit_text.specs.Digit.{DigitTabled};
-ghost use Rattle.unit_text.specs.WireLine.{WireFrom, HeldFrom};
+ghost use Rattle.unit_text.specs.WireLine.{WireFrom, CollectedFrom};
 use crate::line::LINE_END;
 use crate::pair::NO_BYTE;
 use crate::pair::pair;
@@ -17,8 +17,8 @@ pub(crate) enum WireLine {
 }
 
 // The byte at the front of a chunk, where it is a line of its own and the parser of an opened unit only
-// holds it: it then moves nothing but the parser and the fault's quiet time.
-pub(crate) fn held_byte(
+// collects it: it then moves nothing but the parser and the fault's quiet time.
+pub(crate) fn collected_byte(
     digits: &[u8; 256],
     chunk: &[u8],
     held: usize,
@@ -26,7 +26,7 @@ pub(crate) fn held_byte(
     parser: StreamParser,
 ) -> WireLine
     requires { ⌜ DigitTabled (now digits) ⌝ }
-    ensures { λ r. ⌜ HeldFrom held opened parser (now (chunk .entry)) r ⌝ }
+    ensures { λ r. ⌜ CollectedFrom held opened parser (now (chunk .entry)) r ⌝ }
 {
     if held != 0 {
         return WireLine::Other;

@@ -12,7 +12,8 @@ use Rattle.unit_text.proofs.line.print_line.Statement.{statement}
 use Rattle.unit_text.proofs.line.print_line.Tie as tie
 
 abbrev Inv-loop : tie.InvT-loop
-Inv-loop bytes out₀ at next₀ i₀ out next i = (i ≤ length bytes) × (next ≡ at + 2 * i) × (length out ≡ length out₀) × (out ≡ overwrite at (hexOf (take i bytes)) out₀)
+Inv-loop bytes out₀ at next₀ i₀ out next i = (i ≤ length bytes) × (next ≡ at + 2 * i) × (length out ≡ length out₀)
+    × (out ≡ overwrite at (hexOf (take i bytes)) out₀)
 
 abbrev μ-loop : tie.MeasureT-loop
 μ-loop bytes out₀ at next₀ i₀ out next i = length bytes - i

@@ -34,7 +34,8 @@ returns-2 : tie.Need-returns-2
 returns-2 c =
     let high = c .before .before .before .value in
     let low = c .before .before .value2 in
-    c .wide .ensures .0 ∙ rw (high .ensures, low .ensures) (sym (pair-both _ _ (omega (arith, high .ensures, c .before .if1 .left)) (omega (arith, low .ensures, c .before .if1 .left))))
+    c .wide .ensures .0 ∙ rw (high .ensures, low .ensures)
+    (sym (pair-both _ _ (omega (arith, high .ensures, c .before .if1 .left)) (omega (arith, low .ensures, c .before .if1 .left))))
 
 pub pair-spec : {M : Type 1} → statement M
 pair-spec =

@@ -8,7 +8,8 @@ use Rattle.unit_text.specs.Streams.{streamed}
 use Rattle.base.specs.Handed.{handed}
 use Rattle.unit_text.proofs.StreamLaws.{end-length}
 use Rattle.unit_text.proofs.Feeding.{part-left}
-use Rattle.unit_text.proofs.Passing.{Passing, passing-none, passing-within, passing-some, piece-fits, passing-short, passing-more, end-count, end-written, passing-end-short, passing-end}
+use Rattle.unit_text.proofs.Passing.{Passing, passing-none, passing-within, passing-some, piece-fits}
+use Rattle.unit_text.proofs.Passing.{passing-short, passing-more, end-count, end-written, passing-end-short, passing-end}
 use Rattle.unit_text.proofs.whole_session.pass.Statement.{statement}
 use Rattle.unit_text.proofs.whole_session.pass.Tie as tie
 
@@ -51,7 +52,8 @@ returns c =
     let f = c .before .before .feed in
     let fed = rw (part-left _ (l .used), l .inv .room) at (f .ensures .0) in
     let text = rw (part-left _ (l .used)) at (f .ensures .1) in
-    passing-short (l .inv) (c .before .before .before .before .before .before .before .before .before .before .pre) _ (f .last .1 .1 .0) fed text (omega (arith, l .inv .long))
+    passing-short (l .inv) (c .before .before .before .before .before .before .before .before .before .before .pre) _ (f .last .1 .1 .0) fed text
+    (omega (arith, l .inv .long))
 
 slice-aggregate-copy-if : tie.Need-slice-aggregate-copy-if Inv-loop μ-loop
 slice-aggregate-copy-if c = search needs
@@ -61,8 +63,16 @@ copy-if-requires c κs =
     let l = c .before .before .before .before .before .before .before .before .loop in
     let f = c .before .before .before .before .feed in
     let fed = rw (part-left _ (l .used), l .inv .room) at (f .ensures .0) in
-    let text = rw (part-left _ (l .used)) at (f .ensures .1) in
-    (omega (arith, piece-fits (l .inv) (c .before .before .before .before .before .before .before .before .before .before .before .before .pre) _ (f .last .1 .1 .0) fed text, f .kept .1 .1 .0, l .inv .room), omega (arith, l .inv .long, l .inv .fits, c .before .before .if1 .left))
+    let text = rw (part-left _ (l .used)) at (f .ensures .1) in (
+      omega (
+        arith,
+        piece-fits (l .inv) (c .before .before .before .before .before .before .before .before .before .before .before .before .pre) _
+            (f .last .1 .1 .0) fed text,
+        f .kept .1 .1 .0,
+        l .inv .room,
+      ),
+      omega (arith, l .inv .long, l .inv .fits, c .before .before .if1 .left),
+    )
 
 add-used : tie.Need-add-used Inv-loop μ-loop
 add-used c =
@@ -70,7 +80,14 @@ add-used c =
     let f = c .before .before .before .before .before .before .before .before .before .feed in
     let fed = rw (part-left _ (l .used), l .inv .room) at (f .ensures .0) in
     let text = rw (part-left _ (l .used)) at (f .ensures .1) in
-    omega (arith, passing-within (l .inv) (c .before .before .before .before .before .before .before .before .before .before .before .before .before .before .before .before .before .pre) _ (f .last .1 .1 .0) fed text, c .before .before .before .before .before .before .before .before .before .before .before .before .before .before .before .before .before .good)
+    omega (
+      arith,
+      passing-within (l .inv)
+          (c .before .before .before .before .before .before .before .before .before .before .before .before .before .before .before .before
+          .before .pre) _ (f .last .1 .1 .0) fed text,
+      c .before .before .before .before .before .before .before .before .before .before .before .before .before .before .before .before
+          .before .good,
+    )
 
 add-written : tie.Need-add-written Inv-loop μ-loop
 add-written c =
@@ -78,7 +95,14 @@ add-written c =
     let f = c .before .before .before .before .before .before .before .before .before .feed in
     let fed = rw (part-left _ (l .used), l .inv .room) at (f .ensures .0) in
     let text = rw (part-left _ (l .used)) at (f .ensures .1) in
-    omega (arith, l .inv .long, l .inv .fits, c .before .before .before .before .before .before .before .if1 .left, c .before .before .before .before .before .before .before .before .before .before .before .before .before .before .before .before .before .good)
+    omega (
+      arith,
+      l .inv .long,
+      l .inv .fits,
+      c .before .before .before .before .before .before .before .if1 .left,
+      c .before .before .before .before .before .before .before .before .before .before .before .before .before .before .before .before
+          .before .good,
+    )
 
 loop-less : tie.Need-loop-less Inv-loop μ-loop
 loop-less c =
@@ -86,7 +110,16 @@ loop-less c =
     let f = c .before .before .before .before .before .before .before .before .before .feed in
     let fed = rw (part-left _ (l .used), l .inv .room) at (f .ensures .0) in
     let text = rw (part-left _ (l .used)) at (f .ensures .1) in
-    omega (arith, passing-within (l .inv) (c .before .before .before .before .before .before .before .before .before .before .before .before .before .before .before .before .before .pre) _ (f .last .1 .1 .0) fed text, passing-some (l .inv) (c .before .before .before .before .before .before .before .before .before .before .before .before .before .before .before .before .before .pre) _ (f .last .1 .1 .0) fed text (omega (arith, c .before .before .before .before .before .before .before .before .before .before .before .before .loop-test .taken)))
+    omega (
+      arith,
+      passing-within (l .inv)
+          (c .before .before .before .before .before .before .before .before .before .before .before .before .before .before .before .before
+          .before .pre) _ (f .last .1 .1 .0) fed text,
+      passing-some (l .inv)
+          (c .before .before .before .before .before .before .before .before .before .before .before .before .before .before .before .before
+          .before .pre) _ (f .last .1 .1 .0) fed text
+          (omega (arith, c .before .before .before .before .before .before .before .before .before .before .before .before .loop-test .taken)),
+    )
 
 loop-again : tie.Need-loop-again Inv-loop μ-loop
 loop-again c =
@@ -95,7 +128,10 @@ loop-again c =
     let fed = rw (part-left _ (l .used), l .inv .room) at (f .ensures .0) in
     let text = rw (part-left _ (l .used)) at (f .ensures .1) in
     let k = c .before .before .before .before .copy-if in
-    passing-more (l .inv) (c .before .before .before .before .before .before .before .before .before .before .before .before .before .before .before .before .before .pre) _ (f .last .1 .1 .0) fed text _ (f .kept .1 .1 .0) (k .kept .1 .1 .1 .0) (omega (arith, l .inv .long, c .before .before .before .before .before .before .before .if1 .left)) (k .ensures)
+    passing-more (l .inv)
+    (c .before .before .before .before .before .before .before .before .before .before .before .before .before .before .before .before
+    .before .pre) _ (f .last .1 .1 .0) fed text _ (f .kept .1 .1 .0) (k .kept .1 .1 .1 .0)
+    (omega (arith, l .inv .long, c .before .before .before .before .before .before .before .if1 .left)) (k .ensures)
 
 slice-aggregate-finish : tie.Need-slice-aggregate-finish Inv-loop μ-loop
 slice-aggregate-finish c = search needs
@@ -117,7 +153,8 @@ returns-2 c =
     let l = c .before .before .before .before .before .before .loop in
     let f = c .before .before .before .finish in
     let told = sym (ap handed (c .enum-told .given .1)) ∙ f .ensures .0 in
-    absurd (end-written (l .inv) (c .before .before .before .before .before .before .before .before .before .before .pre) (omega (arith, c .before .before .before .before .before .loop-test .left)) told)
+    absurd (end-written (l .inv) (c .before .before .before .before .before .before .before .before .before .before .pre)
+    (omega (arith, c .before .before .before .before .before .loop-test .left)) told)
 
 sub-if2 : tie.Need-sub-if2 Inv-loop μ-loop
 sub-if2 c = search needs
@@ -130,7 +167,11 @@ returns-3 c =
     let l = c .before .before .before .before .before .before .before .before .loop in
     let f = c .before .before .before .before .before .finish in
     let told = sym (ap handed (c .before .before .end .given .1)) ∙ f .ensures .0 in
-    passing-end-short (l .inv) (c .before .before .before .before .before .before .before .before .before .before .before .before .pre) (omega (arith, c .before .before .before .before .before .before .before .loop-test .left)) _ (end-count (l .inv) (c .before .before .before .before .before .before .before .before .before .before .before .before .pre) (omega (arith, c .before .before .before .before .before .before .before .loop-test .left)) _ told) (omega (arith, l .inv .long, c .if2 .taken))
+    passing-end-short (l .inv) (c .before .before .before .before .before .before .before .before .before .before .before .before .pre)
+    (omega (arith, c .before .before .before .before .before .before .before .loop-test .left)) _
+    (end-count (l .inv) (c .before .before .before .before .before .before .before .before .before .before .before .before .pre)
+    (omega (arith, c .before .before .before .before .before .before .before .loop-test .left)) _ told)
+    (omega (arith, l .inv .long, c .if2 .taken))
 
 slice-aggregate-copy-if-2 : tie.Need-slice-aggregate-copy-if-2 Inv-loop μ-loop
 slice-aggregate-copy-if-2 c = search needs
@@ -139,13 +180,30 @@ copy-if-requires-2 : tie.Need-copy-if-requires-2 Inv-loop μ-loop
 copy-if-requires-2 c κs =
     let l = c .before .before .before .before .before .before .before .before .before .before .loop in
     let f = c .before .before .before .before .before .before .before .finish in
-    let told = sym (ap handed (c .before .before .before .before .end .given .1)) ∙ f .ensures .0 in
-    (omega (arith, end-count (l .inv) (c .before .before .before .before .before .before .before .before .before .before .before .before .before .before .pre) (omega (arith, c .before .before .before .before .before .before .before .before .before .loop-test .left)) _ told, end-length (streamed (l .stream)), f .kept .1 .0, l .inv .room), omega (arith, l .inv .long, l .inv .fits, c .before .before .if2 .left))
+    let told = sym (ap handed (c .before .before .before .before .end .given .1)) ∙ f .ensures .0 in (
+      omega (
+        arith,
+        end-count (l .inv)
+            (c .before .before .before .before .before .before .before .before .before .before .before .before .before .before .pre)
+            (omega (arith, c .before .before .before .before .before .before .before .before .before .loop-test .left)) _ told,
+        end-length (streamed (l .stream)),
+        f .kept .1 .0,
+        l .inv .room,
+      ),
+      omega (arith, l .inv .long, l .inv .fits, c .before .before .if2 .left),
+    )
 
 add-t27 : tie.Need-add-t27 Inv-loop μ-loop
 add-t27 c =
     let l = c .before .before .before .before .before .before .before .before .before .before .before .before .before .loop in
-    omega (arith, l .inv .long, l .inv .fits, c .before .before .before .before .before .if2 .left, c .before .before .before .before .before .before .before .before .before .before .before .before .before .before .before .before .before .good)
+    omega (
+      arith,
+      l .inv .long,
+      l .inv .fits,
+      c .before .before .before .before .before .if2 .left,
+      c .before .before .before .before .before .before .before .before .before .before .before .before .before .before .before .before
+          .before .good,
+    )
 
 same-length-4 : tie.Need-same-length-4 Inv-loop μ-loop
 same-length-4 c = search needs
@@ -156,7 +214,15 @@ returns-4 c =
     let f = c .before .before .before .before .before .before .before .before .before .before .finish in
     let told = sym (ap handed (c .before .before .before .before .before .before .before .end .given .1)) ∙ f .ensures .0 in
     let k = c .before .before .copy-if2 in
-    passing-end (l .inv) (c .before .before .before .before .before .before .before .before .before .before .before .before .before .before .before .before .before .pre) (omega (arith, c .before .before .before .before .before .before .before .before .before .before .before .before .loop-test .left)) _ _ _ (end-count (l .inv) (c .before .before .before .before .before .before .before .before .before .before .before .before .before .before .before .before .before .pre) (omega (arith, c .before .before .before .before .before .before .before .before .before .before .before .before .loop-test .left)) _ told) (omega (arith, l .inv .long, c .before .before .before .before .before .if2 .left)) (f .ensures .1) (k .ensures)
+    passing-end (l .inv)
+    (c .before .before .before .before .before .before .before .before .before .before .before .before .before .before .before .before
+    .before .pre)
+    (omega (arith, c .before .before .before .before .before .before .before .before .before .before .before .before .loop-test .left)) _ _ _
+    (end-count (l .inv)
+    (c .before .before .before .before .before .before .before .before .before .before .before .before .before .before .before .before
+    .before .pre)
+    (omega (arith, c .before .before .before .before .before .before .before .before .before .before .before .before .loop-test .left)) _ told)
+    (omega (arith, l .inv .long, c .before .before .before .before .before .if2 .left)) (f .ensures .1) (k .ensures)
 
 pub pass-spec : {M : Type 1} → statement M
 pass-spec =

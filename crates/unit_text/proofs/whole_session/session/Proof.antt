@@ -42,7 +42,8 @@ returns-2 c =
     let a = c .before .before .before .before .before .before .before .before .before .before .before .before .args in
     let p = c .before .before .before .before .before .before .before .before .pass in
     let q = c .before .before .pass2 in
-    let fits = told-fits (sessionText (a .text .now)) (a .out .now) _ (sym (ap handed (c .before .before .before .before .enum-told2 .given .1)) ∙ p .ensures .0) in
+    let fits = told-fits (sessionText (a .text .now)) (a .out .now) _ (sym (ap handed (c .before .before .before .before .enum-told2 .given .1))
+    ∙ p .ensures .0) in
     (rw (p .ensures .1) at (q .ensures .0), (rw (p .ensures .1) at (q .ensures .1)) ∙ sym (fits-output _ (a .out .now) fits))
 
 pub session-spec : {M : Type 1} → statement M

@@ -50,7 +50,8 @@ loop-holds : tie.Need-loop-holds Inv-loop μ-loop
 loop-holds c =
     let byte = c .before .pair in
     let long = c .before .before .before .before .before .before .before .before .before .before .if1 .left in
-    timed-none _ long (c .before .before .before .before .before .before .if3 .left) (c .before .before .before .before .if4 .left) (byte .result) (byte .ensures) (c .if5 .left)
+    timed-none _ long (c .before .before .before .before .before .before .if3 .left) (c .before .before .before .before .if4 .left) (byte .result)
+    (byte .ensures) (c .if5 .left)
 
 mul-place : tie.Need-mul-place Inv-loop μ-loop
 mul-place c = search needs

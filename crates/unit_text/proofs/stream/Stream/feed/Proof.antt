@@ -1,4 +1,4 @@
--- Every turn cuts one line off the chunk and answers it, in place where a byte is only held.
+-- Every turn answers the next line of the chunk, in place where a byte is only collected.
 use borrow.Author.Needs.{needs}
 use native.Mathlib.Omega.{arith}
 use mathlib.Core.Path.{_≡_, sym, ap, _∙_}
@@ -11,51 +11,91 @@ use Rattle.base.specs.Reply.{Reply}
 use Rattle.esc_unit.specs.Admission.{admitted}
 use Rattle.esc_unit.specs.declared.unit.Unit.{Unit}
 use Rattle.unit_text.specs.Line.{readLine, lineRead}
-use Rattle.unit_text.specs.Cut.{firstLine, CutFrom}
-use Rattle.unit_text.specs.Answering.{takenBy}
-use Rattle.unit_text.specs.WireLine.{HeldAt}
-use Rattle.unit_text.specs.declared.cut.Cut.the-variants.{Line}
-use Rattle.unit_text.proofs.AnswersLaws.{answers-refused, answers-held, answers-answered, answers-entered}
+use Rattle.unit_text.specs.NextLine.{firstLine, NextFrom}
+use Rattle.unit_text.specs.Answering.{admittedBy}
+use Rattle.unit_text.specs.WireLine.{CollectedAt}
+use Rattle.unit_text.specs.declared.next_line.NextLine.the-variants.{Ended}
+use Rattle.unit_text.proofs.AnswersLaws.{answers-refused, answers-collected, answers-answered, answers-entered}
 use Rattle.unit_text.proofs.Feeding.{Feeding, feeding-none, held-line, part-left, fed-stop, fed-end, fed-open, feeding-line, goes-on}
 use Rattle.unit_text.proofs.stream.Stream.feed.Statement.{statement}
 use Rattle.unit_text.proofs.stream.Stream.feed.Tie as tie
 
 abbrev Inv-loop : tie.InvT-loop
-Inv-loop chunk out₀ digits bytes₀ opened₀ manager₀ books₀ line₀ held₀ used₀ written₀ out bytes opened manager books line held used written = Feeding (record { unit = record { opened = opened₀; manager = manager₀; books = books₀ }; line = take held₀ line₀ }) chunk out₀ (record { opened = opened; manager = manager; books = books }) line held bytes out used written
+Inv-loop chunk out₀ digits bytes₀ opened₀ manager₀ books₀ line₀ held₀ used₀ written₀ out bytes opened manager books line held used written = Feeding
+    (record { unit = record { opened = opened₀; manager = manager₀; books = books₀ }; line = take held₀ line₀ }) chunk out₀
+    (record { opened = opened; manager = manager; books = books }) line held bytes out used written
 
 abbrev μ-loop : tie.MeasureT-loop
 μ-loop chunk out₀ digits bytes₀ opened₀ manager₀ books₀ line₀ held₀ used₀ written₀ out bytes opened manager books line held used written = length chunk - used
 
 -- no more than the buffer is held, whatever the stream says
-held : (c : tie.After-at-most-held Inv-loop μ-loop) → take (c .before .before .before .before .before .before .before .before .args .self .held) (c .before .before .before .before .before .before .before .before .args .self .line) ≡ take (c .at-most-held .result) (c .before .before .before .before .before .before .before .before .args .self .line)
+held : (c : tie.After-at-most-held Inv-loop μ-loop) → take (c .before .before .before .before .before .before .before .before .args .self .held)
+    (c .before .before .before .before .before .before .before .before .args .self .line)
+    ≡ take (c .at-most-held .result) (c .before .before .before .before .before .before .before .before .args .self .line)
 held c = held-line _ (c .before .before .before .before .before .before .before .before .args .self .held) _ (search needs) (c .at-most-held .ensures)
 
 -- a byte that was read from where its line stands
 module _ (c : tie.After-known-told Inv-loop μ-loop) where
   abbrev left-over : List ℕ
-  left-over = drop (c .before .before .before .before .before .before .before .before .before .loop .used) (now (c .before .before .before .before .before .before .before .before .before .before .before .before .before .before .before .before .before .before .args .chunk))
+  left-over = drop (c .before .before .before .before .before .before .before .before .before .loop .used)
+      (now (c .before .before .before .before .before .before .before .before .before .before .before .before .before .before .before .before .before
+      .before .args .chunk))
 
-  byte : HeldAt (c .before .before .before .before .before .before .before .before .before .loop .held) (c .before .before .before .before .before .before .before .before .before .loop .opened) (c .before .before .before .before .before .before .before .before .before .loop .manager .parser) left-over (c .before .byte .given .0 .0) (c .before .byte .given .0 .1 .0)
-  byte = rw (c .before .byte .given .1, part-left _ (c .before .before .before .before .before .before .before .before .before .loop .used)) at (c .before .before .before .held-byte .ensures)
+  byte : CollectedAt (c .before .before .before .before .before .before .before .before .before .loop .held)
+      (c .before .before .before .before .before .before .before .before .before .loop .opened)
+      (c .before .before .before .before .before .before .before .before .before .loop .manager .parser) left-over (c .before .byte .given .0 .0)
+      (c .before .byte .given .0 .1 .0)
+  byte = rw (c .before .byte .given .1, part-left _ (c .before .before .before .before .before .before .before .before .before .loop .used))
+      at (c .before .before .before .collected-byte .ensures)
 
-  passes : c .before .before .before .before .before .before .before .before .before .loop .used + 21 ≤ length (now (c .before .before .before .before .before .before .before .before .before .before .before .before .before .before .before .before .before .before .args .chunk))
-  passes = goes-on (c .before .before .before .before .before .before .before .before .before .loop .inv) 21 (omega (arith, byte .line .ends, byte .line .long)) (omega (arith, byte .line .ends))
+  passes : c .before .before .before .before .before .before .before .before .before .loop .used + 21 ≤ length
+      (now (c .before .before .before .before .before .before .before .before .before .before .before .before .before .before .before .before .before
+      .before .args .chunk))
+  passes = goes-on (c .before .before .before .before .before .before .before .before .before .loop .inv) 21
+      (omega (arith, byte .line .ends, byte .line .long)) (omega (arith, byte .line .ends))
 
--- the line that was cut off
+-- the line that was found
 module _ (c : tie.After-known-told3 Inv-loop μ-loop) where
-  cut : CutFrom (take (c .before .before .before .before .before .before .before .before .before .before .before .before .before .before .before .before .before .before .loop .held) (c .before .before .before .before .before .before .before .before .before .before .before .before .before .before .before .before .before .before .loop .line)) (drop (c .before .before .before .before .before .before .before .before .before .before .before .before .before .before .before .before .before .before .loop .used) (now (c .before .before .before .before .before .before .before .before .before .before .before .before .before .before .before .before .before .before .before .before .before .before .before .before .before .before .before .args .chunk)))
-      (Line (c .before .cut2 .given .0 .0) (c .before .cut2 .given .0 .1 .0)) (c .before .before .before .before .before .next-line .last .1 .1 .0) (c .before .before .before .before .before .next-line .last .1 .1 .1 .1 .0)
-  cut = rw (c .before .cut2 .given .1, part-left _ (c .before .before .before .before .before .before .before .before .before .before .before .before .before .before .before .before .before .before .loop .used)) at (c .before .before .before .before .before .next-line .ensures)
+  found : NextFrom
+      (take (c .before .before .before .before .before .before .before .before .before .before .before .before .before .before .before .before .before
+      .before .loop .held)
+      (c .before .before .before .before .before .before .before .before .before .before .before .before .before .before .before .before .before
+      .before .loop .line))
+      (drop (c .before .before .before .before .before .before .before .before .before .before .before .before .before .before .before .before .before
+      .before .loop .used)
+      (now (c .before .before .before .before .before .before .before .before .before .before .before .before .before .before .before .before .before
+      .before .before .before .before .before .before .before .before .before .before .args .chunk)))
+      (Ended (c .before .found2 .given .0 .0) (c .before .found2 .given .0 .1 .0))
+      (c .before .before .before .before .before .next-line .last .1 .1 .0)
+      (c .before .before .before .before .before .next-line .last .1 .1 .1 .1 .0)
+  found = rw (
+    c .before .found2 .given .1,
+    part-left _
+        (c .before .before .before .before .before .before .before .before .before .before .before .before .before .before .before .before .before
+        .before .loop .used),
+  ) at (c .before .before .before .before .before .next-line .ensures)
 
   -- the unit before it, and what was read
   abbrev was : Unit
-  was = record { opened = c .before .before .before .before .before .before .before .before .before .before .before .before .before .before .before .before .before .before .loop .opened; manager = c .before .before .before .before .before .before .before .before .before .before .before .before .before .before .before .before .before .before .loop .manager; books = c .before .before .before .before .before .before .before .before .before .before .before .before .before .before .before .before .before .before .loop .books }
+  was = record {
+    opened = c .before .before .before .before .before .before .before .before .before .before .before .before .before .before .before .before
+        .before .before .loop .opened;
+    manager = c .before .before .before .before .before .before .before .before .before .before .before .before .before .before .before .before
+        .before .before .loop .manager;
+    books = c .before .before .before .before .before .before .before .before .before .before .before .before .before .before .before .before
+        .before .before .loop .books;
+  }
 
   abbrev heard-line : Reply (List ℕ)
-  heard-line = lineRead (c .before .cut2 .given .0 .0) (c .before .before .before .before .before .next-line .last .1 .1 .1 .1 .0)
+  heard-line = lineRead (c .before .found2 .given .0 .0) (c .before .before .before .before .before .next-line .last .1 .1 .1 .1 .0)
 
-  goes : c .before .before .before .before .before .before .before .before .before .before .before .before .before .before .before .before .before .before .loop .used + c .before .cut2 .given .0 .1 .0 ≤ length (now (c .before .before .before .before .before .before .before .before .before .before .before .before .before .before .before .before .before .before .before .before .before .before .before .before .before .before .before .args .chunk))
-  goes = goes-on (c .before .before .before .before .before .before .before .before .before .before .before .before .before .before .before .before .before .before .loop .inv) _ (cut .0) (cut .1)
+  goes : c .before .before .before .before .before .before .before .before .before .before .before .before .before .before .before .before .before
+      .before .loop .used + c .before .found2 .given .0 .1 .0 ≤ length
+      (now (c .before .before .before .before .before .before .before .before .before .before .before .before .before .before .before .before .before
+      .before .before .before .before .before .before .before .before .before .before .args .chunk))
+  goes = goes-on
+      (c .before .before .before .before .before .before .before .before .before .before .before .before .before .before .before .before .before
+      .before .loop .inv) _ (found .0) (found .1)
 
 digits-requires : tie.Need-digits-requires Inv-loop μ-loop
 digits-requires c κs = search needs
@@ -77,17 +117,17 @@ returns c =
     let l = c .before .before .loop in
     rw (held (c .before .before .before)) (fed-stop (l .inv) (omega arith))
 
-sub-held-byte : tie.Need-sub-held-byte Inv-loop μ-loop
-sub-held-byte c = search needs
+sub-collected-byte : tie.Need-sub-collected-byte Inv-loop μ-loop
+sub-collected-byte c = search needs
 
-part-held-byte-start : tie.Need-part-held-byte-start Inv-loop μ-loop
-part-held-byte-start c = search needs
+part-collected-byte-start : tie.Need-part-collected-byte-start Inv-loop μ-loop
+part-collected-byte-start c = search needs
 
-part-held-byte-end : tie.Need-part-held-byte-end Inv-loop μ-loop
-part-held-byte-end c = search needs
+part-collected-byte-end : tie.Need-part-collected-byte-end Inv-loop μ-loop
+part-collected-byte-end c = search needs
 
-held-byte-requires : tie.Need-held-byte-requires Inv-loop μ-loop
-held-byte-requires c κs = c .before .before .before .before .before .before .before .before .before .before .before .digits .ensures
+collected-byte-requires : tie.Need-collected-byte-requires Inv-loop μ-loop
+collected-byte-requires c κs = c .before .before .before .before .before .before .before .before .before .before .before .digits .ensures
 
 enum-known-byte : tie.Need-enum-known-byte Inv-loop μ-loop
 enum-known-byte c = search needs
@@ -99,13 +139,24 @@ heard-requires : tie.Need-heard-requires Inv-loop μ-loop
 heard-requires c κs = search needs
 
 print-nothing-requires : tie.Need-print-nothing-requires Inv-loop μ-loop
-print-nothing-requires c κs = omega (arith, c .before .before .before .before .before .before .before .before .before .before .before .before .before .loop .inv .long, c .before .before .before .before .before .before .before .before .before .before .before .if1 .left)
+print-nothing-requires c κs =
+    omega (
+      arith,
+      c .before .before .before .before .before .before .before .before .before .before .before .before .before .loop .inv .long,
+      c .before .before .before .before .before .before .before .before .before .before .before .if1 .left,
+    )
 
 add-used : tie.Need-add-used Inv-loop μ-loop
 add-used c = search needs
 
 add-used-2 : tie.Need-add-used-2 Inv-loop μ-loop
-add-used-2 c = omega (arith, c .before .before .before .before .before .before .before .before .before .before .before .before .before .before .before .before .before .before .before .before .before .before .before .before .before .good, passes (c .before .before .before .before .before .before .before))
+add-used-2 c =
+    omega (
+      arith,
+      c .before .before .before .before .before .before .before .before .before .before .before .before .before .before .before .before .before .before
+          .before .before .before .before .before .before .before .good,
+      passes (c .before .before .before .before .before .before .before),
+    )
 
 loop-less : tie.Need-loop-less Inv-loop μ-loop
 loop-less c = omega (arith, passes (c .before .before .before .before .before .before .before))
@@ -117,10 +168,12 @@ loop-again c =
     let h = byte t in
     let unit : Unit = record { opened = l .opened; manager = l .manager; books = l .books } in
     let heard = readLine (firstLine (left-over t)) in
-    let said = answers-held unit heard _ _ (ap (λ (b : Bool). takenBy b heard) (h .before) ∙ h .line .taken) (h .few) in
+    let said = answers-collected unit heard _ _ (ap (λ (b : Bool). admittedBy b heard) (h .before) ∙ h .line .admitted) (h .few) in
     rw (h .none, c .before .before .before .before .before .before .collected .ensures, h .few, c .before .before .before .before .heard .ensures, h .before)
-    (feeding-line (l .inv) (omega (arith, l .inv .long, t .before .before .before .before .before .before .before .if1 .left)) heard 21 (omega (arith, h .line .ends, h .line .long)) (omega (arith, h .line .ends))
-    (ap (λ (n : ℕ). readLine (take n (l .line) ++ firstLine (left-over t))) (sym (h .none))) _ _ said _ _ (c .before .before .print-nothing .ensures) (l .line) (l .bytes) (l .inv .buffer) (l .inv .room) (c .before .before .print-nothing .kept .0))
+    (feeding-line (l .inv) (omega (arith, l .inv .long, t .before .before .before .before .before .before .before .if1 .left)) heard 21
+    (omega (arith, h .line .ends, h .line .long)) (omega (arith, h .line .ends))
+    (ap (λ (n : ℕ). readLine (take n (l .line) ++ firstLine (left-over t))) (sym (h .none))) _ _ said _ _ (c .before .before .print-nothing .ensures)
+    (l .line) (l .bytes) (l .inv .buffer) (l .inv .room) (c .before .before .print-nothing .kept .0))
 
 enum-told : tie.Need-enum-told Inv-loop μ-loop
 enum-told c = search needs
@@ -141,53 +194,93 @@ slice-aggregate-next-line-2 : tie.Need-slice-aggregate-next-line-2 Inv-loop μ-l
 slice-aggregate-next-line-2 c = search needs
 
 next-line-requires : tie.Need-next-line-requires Inv-loop μ-loop
-next-line-requires c κs = (c .before .before .before .before .before .before .before .before .before .before .before .before .before .before .before .before .before .before .digits .ensures, c .before .before .before .before .before .before .before .before .before .before .before .before .loop .inv .room, c .before .before .before .before .before .before .before .before .before .before .before .before .loop .inv .buffer, c .before .before .before .before .before .before .before .before .before .before .before .before .loop .inv .holds)
+next-line-requires c κs = (
+  c .before .before .before .before .before .before .before .before .before .before .before .before .before .before .before .before .before
+      .before .digits .ensures,
+  c .before .before .before .before .before .before .before .before .before .before .before .before .loop .inv .room,
+  c .before .before .before .before .before .before .before .before .before .before .before .before .loop .inv .buffer,
+  c .before .before .before .before .before .before .before .before .before .before .before .before .loop .inv .holds,
+)
 
-enum-known-cut : tie.Need-enum-known-cut Inv-loop μ-loop
-enum-known-cut c = search needs
+enum-known-found : tie.Need-enum-known-found Inv-loop μ-loop
+enum-known-found c = search needs
 
 same-length-2 : tie.Need-same-length-2 Inv-loop μ-loop
 same-length-2 c = search needs
 
 returns-2 : tie.Need-returns-2 Inv-loop μ-loop
 returns-2 c =
-    let l = c .before .before .before .before .before .before .before .before .before .before .before .before .before .before .before .before .before .before .loop in
+    let l = c .before .before .before .before .before .before .before .before .before .before .before .before .before .before .before .before .before
+    .before .loop in
     let k = c .before .before .before .before .before .next-line in
-    let begun = rw (c .before .cut .given .1, part-left _ (l .used)) at (k .ensures) in
-    rw (held (c .before .before .before .before .before .before .before .before .before .before .before .before .before .before .before .before .before .before .before)) (fed-open (l .inv) (omega arith) _ _ (k .last .1 .1 .1 .1 .0) begun)
+    let begun = rw (c .before .found .given .1, part-left _ (l .used)) at (k .ensures) in
+    rw (held
+    (c .before .before .before .before .before .before .before .before .before .before .before .before .before .before .before .before .before
+    .before .before)) (fed-open (l .inv) (omega arith) _ _ (k .last .1 .1 .1 .1 .0) begun)
 
-enum-known-cut-2 : tie.Need-enum-known-cut-2 Inv-loop μ-loop
-enum-known-cut-2 c = search needs
+enum-known-found-2 : tie.Need-enum-known-found-2 Inv-loop μ-loop
+enum-known-found-2 c = search needs
 
 add-used-3 : tie.Need-add-used-3 Inv-loop μ-loop
-add-used-3 c = omega (arith, c .before .before .before .before .before .before .before .before .before .before .before .before .before .before .before .before .before .before .before .before .before .before .before .before .before .before .before .good, goes c)
+add-used-3 c =
+    omega (
+      arith,
+      c .before .before .before .before .before .before .before .before .before .before .before .before .before .before .before .before .before .before
+          .before .before .before .before .before .before .before .before .before .good,
+      goes c,
+    )
 
-slice-aggregate-take : tie.Need-slice-aggregate-take Inv-loop μ-loop
-slice-aggregate-take c = search needs
+slice-aggregate-admit-line : tie.Need-slice-aggregate-admit-line Inv-loop μ-loop
+slice-aggregate-admit-line c = search needs
 
-take-requires : tie.Need-take-requires Inv-loop μ-loop
-take-requires c κs = omega (arith, cut (c .before) .3, c .before .before .before .before .before .before .next-line .kept .1 .1 .1 .1 .0, c .before .before .before .before .before .before .before .before .before .before .before .before .before .before .before .before .before .before .before .loop .inv .room)
+admit-line-requires : tie.Need-admit-line-requires Inv-loop μ-loop
+admit-line-requires c κs = omega (
+  arith,
+  found (c .before) .3,
+  c .before .before .before .before .before .before .next-line .kept .1 .1 .1 .1 .0,
+  c .before .before .before .before .before .before .before .before .before .before .before .before .before .before .before .before .before .before
+      .before .loop .inv .room,
+)
 
-enum-known-taken : tie.Need-enum-known-taken Inv-loop μ-loop
-enum-known-taken c = search needs
+enum-known-admission : tie.Need-enum-known-admission Inv-loop μ-loop
+enum-known-admission c = search needs
 
 print-refusal-requires : tie.Need-print-refusal-requires Inv-loop μ-loop
-print-refusal-requires c κs = omega (arith, c .before .before .before .before .before .before .before .before .before .before .before .before .before .before .before .before .before .before .before .before .before .before .before .before .loop .inv .long, c .before .before .before .before .before .before .before .before .before .before .before .before .before .before .before .before .before .before .before .before .before .before .if1 .left)
+print-refusal-requires c κs =
+    omega (
+      arith,
+      c .before .before .before .before .before .before .before .before .before .before .before .before .before .before .before .before .before .before
+          .before .before .before .before .before .before .loop .inv .long,
+      c .before .before .before .before .before .before .before .before .before .before .before .before .before .before .before .before .before .before
+          .before .before .before .before .if1 .left,
+    )
 
 loop-less-2 : tie.Need-loop-less-2 Inv-loop μ-loop
-loop-less-2 c = omega (arith, cut (c .before .before .before .before .before .before .before .before .before) .1, goes (c .before .before .before .before .before .before .before .before .before))
+loop-less-2 c = omega (
+  arith,
+  found (c .before .before .before .before .before .before .before .before .before) .1,
+  goes (c .before .before .before .before .before .before .before .before .before),
+)
 
 loop-again-2 : tie.Need-loop-again-2 Inv-loop μ-loop
 loop-again-2 c =
     let t = c .before .before .before .before .before .before .before .before .before in
-    let l = t .before .before .before .before .before .before .before .before .before .before .before .before .before .before .before .before .before .before .loop in
+    let l = t .before .before .before .before .before .before .before .before .before .before .before .before .before .before .before .before .before
+    .before .loop in
     let k = t .before .before .before .before .before .next-line in
-    let said = answers-refused (was t) (heard-line t) _ (sym (c .before .before .before .before .before .before .before .take .ensures) ∙ ap admitted (c .before .before .before .before .before .taken .given .1)) in
-    (feeding-line (l .inv) (omega (arith, l .inv .long, t .before .before .before .before .before .before .before .before .before .before .before .before .before .before .before .before .if1 .left)) (heard-line t) (t .before .cut2 .given .0 .1 .0) (cut t .0) (cut t .1) (cut t .2) _ _ said _ _ (c .before .before .print-refusal .ensures)
-    (k .last .1 .1 .0) (k .last .1 .1 .1 .1 .0) (cut t .4) (k .kept .1 .1 .1 .1 .0 ∙ l .inv .room) (c .before .before .print-refusal .kept .1 .0))
+    let said = answers-refused (was t) (heard-line t) _ (sym (c .before .before .before .before .before .before .before .admit-line .ensures)
+    ∙ ap admitted (c .before .before .before .before .before .admission .given .1)) in
+    (feeding-line (l .inv) (omega (
+      arith,
+      l .inv .long,
+      t .before .before .before .before .before .before .before .before .before .before .before .before .before .before .before .before .if1 .left,
+    ))
+    (heard-line t) (t .before .found2 .given .0 .1 .0) (found t .0) (found t .1) (found t .2) _ _ said _ _
+    (c .before .before .print-refusal .ensures)
+    (k .last .1 .1 .0) (k .last .1 .1 .1 .1 .0) (found t .4) (k .kept .1 .1 .1 .1 .0 ∙ l .inv .room) (c .before .before .print-refusal .kept .1 .0))
 
-enum-known-taken-2 : tie.Need-enum-known-taken-2 Inv-loop μ-loop
-enum-known-taken-2 c = search needs
+enum-known-admission-2 : tie.Need-enum-known-admission-2 Inv-loop μ-loop
+enum-known-admission-2 c = search needs
 
 manage-requires : tie.Need-manage-requires Inv-loop μ-loop
 manage-requires c κs = search needs
@@ -196,21 +289,43 @@ enum-known-left : tie.Need-enum-known-left Inv-loop μ-loop
 enum-known-left c = search needs
 
 print-answer-requires : tie.Need-print-answer-requires Inv-loop μ-loop
-print-answer-requires c κs = omega (arith, c .before .before .before .before .before .before .before .before .before .before .before .before .before .before .before .before .before .before .before .before .before .before .before .before .before .before .before .before .before .loop .inv .long, c .before .before .before .before .before .before .before .before .before .before .before .before .before .before .before .before .before .before .before .before .before .before .before .before .before .before .before .if1 .left)
+print-answer-requires c κs =
+    omega (
+      arith,
+      c .before .before .before .before .before .before .before .before .before .before .before .before .before .before .before .before .before .before
+          .before .before .before .before .before .before .before .before .before .before .before .loop .inv .long,
+      c .before .before .before .before .before .before .before .before .before .before .before .before .before .before .before .before .before .before
+          .before .before .before .before .before .before .before .before .before .if1 .left,
+    )
 
 loop-less-3 : tie.Need-loop-less-3 Inv-loop μ-loop
-loop-less-3 c = omega (arith, cut (c .before .before .before .before .before .before .before .before .before .before .before .before .before .before) .1, goes (c .before .before .before .before .before .before .before .before .before .before .before .before .before .before))
+loop-less-3 c =
+    omega (
+      arith,
+      found (c .before .before .before .before .before .before .before .before .before .before .before .before .before .before) .1,
+      goes (c .before .before .before .before .before .before .before .before .before .before .before .before .before .before),
+    )
 
 loop-again-3 : tie.Need-loop-again-3 Inv-loop μ-loop
 loop-again-3 c =
     let t = c .before .before .before .before .before .before .before .before .before .before .before .before .before .before in
-    let l = t .before .before .before .before .before .before .before .before .before .before .before .before .before .before .before .before .before .before .loop in
+    let l = t .before .before .before .before .before .before .before .before .before .before .before .before .before .before .before .before .before
+    .before .loop in
     let k = t .before .before .before .before .before .next-line in
     let m = c .before .before .before .before .before .before .before .before .manage in
-    let said = answers-answered (was t) (heard-line t) _ (sym (c .before .before .before .before .before .before .before .before .before .before .before .before .take .ensures) ∙ ap admitted (c .before .before .before .before .before .before .before .before .before .before .taken2 .given .1)) _ (rw (m .ensures) at (c .before .before .before .before .before .left .given .1)) in
+    let said = answers-answered (was t) (heard-line t) _
+    (sym (c .before .before .before .before .before .before .before .before .before .before .before .before .admit-line .ensures)
+    ∙ ap admitted (c .before .before .before .before .before .before .before .before .before .before .admission2 .given .1)) _
+    (rw (m .ensures) at (c .before .before .before .before .before .left .given .1)) in
     rw (m .ensures)
-    (feeding-line (l .inv) (omega (arith, l .inv .long, t .before .before .before .before .before .before .before .before .before .before .before .before .before .before .before .before .if1 .left)) (heard-line t) (t .before .cut2 .given .0 .1 .0) (cut t .0) (cut t .1) (cut t .2) _ _ said _ _ (c .before .before .print-answer .ensures)
-    (k .last .1 .1 .0) (k .last .1 .1 .1 .1 .0) (cut t .4) (k .kept .1 .1 .1 .1 .0 ∙ l .inv .room) (c .before .before .print-answer .kept .1 .0))
+    (feeding-line (l .inv) (omega (
+      arith,
+      l .inv .long,
+      t .before .before .before .before .before .before .before .before .before .before .before .before .before .before .before .before .if1 .left,
+    ))
+    (heard-line t) (t .before .found2 .given .0 .1 .0) (found t .0) (found t .1) (found t .2) _ _ said _ _
+    (c .before .before .print-answer .ensures)
+    (k .last .1 .1 .0) (k .last .1 .1 .1 .1 .0) (found t .4) (k .kept .1 .1 .1 .1 .0 ∙ l .inv .room) (c .before .before .print-answer .kept .1 .0))
 
 enum-known-left-2 : tie.Need-enum-known-left-2 Inv-loop μ-loop
 enum-known-left-2 c = search needs
@@ -219,22 +334,44 @@ entered-requires : tie.Need-entered-requires Inv-loop μ-loop
 entered-requires c κs = search needs
 
 print-answer-requires-2 : tie.Need-print-answer-requires-2 Inv-loop μ-loop
-print-answer-requires-2 c κs = omega (arith, c .before .before .before .before .before .before .before .before .before .before .before .before .before .before .before .before .before .before .before .before .before .before .before .before .before .before .before .before .before .before .before .loop .inv .long, c .before .before .before .before .before .before .before .before .before .before .before .before .before .before .before .before .before .before .before .before .before .before .before .before .before .before .before .before .before .if1 .left)
+print-answer-requires-2 c κs =
+    omega (
+      arith,
+      c .before .before .before .before .before .before .before .before .before .before .before .before .before .before .before .before .before .before
+          .before .before .before .before .before .before .before .before .before .before .before .before .before .loop .inv .long,
+      c .before .before .before .before .before .before .before .before .before .before .before .before .before .before .before .before .before .before
+          .before .before .before .before .before .before .before .before .before .before .before .if1 .left,
+    )
 
 loop-less-4 : tie.Need-loop-less-4 Inv-loop μ-loop
-loop-less-4 c = omega (arith, cut (c .before .before .before .before .before .before .before .before .before .before .before .before .before .before .before .before) .1, goes (c .before .before .before .before .before .before .before .before .before .before .before .before .before .before .before .before))
+loop-less-4 c =
+    omega (
+      arith,
+      found (c .before .before .before .before .before .before .before .before .before .before .before .before .before .before .before .before) .1,
+      goes (c .before .before .before .before .before .before .before .before .before .before .before .before .before .before .before .before),
+    )
 
 loop-again-4 : tie.Need-loop-again-4 Inv-loop μ-loop
 loop-again-4 c =
     let t = c .before .before .before .before .before .before .before .before .before .before .before .before .before .before .before .before in
-    let l = t .before .before .before .before .before .before .before .before .before .before .before .before .before .before .before .before .before .before .loop in
+    let l = t .before .before .before .before .before .before .before .before .before .before .before .before .before .before .before .before .before
+    .before .loop in
     let k = t .before .before .before .before .before .next-line in
     let m = c .before .before .before .before .before .before .before .before .before .before .manage in
     let n = c .before .before .before .before .before .entered in
-    let said = answers-entered (was t) (heard-line t) _ (sym (c .before .before .before .before .before .before .before .before .before .before .before .before .before .before .take .ensures) ∙ ap admitted (c .before .before .before .before .before .before .before .before .before .before .before .before .taken2 .given .1)) _ (rw (m .ensures) at (c .before .before .before .before .before .before .before .left2 .given .1)) in
+    let said = answers-entered (was t) (heard-line t) _
+    (sym (c .before .before .before .before .before .before .before .before .before .before .before .before .before .before .admit-line .ensures)
+    ∙ ap admitted (c .before .before .before .before .before .before .before .before .before .before .before .before .admission2 .given .1)) _
+    (rw (m .ensures) at (c .before .before .before .before .before .before .before .left2 .given .1)) in
     rw (n .ensures, m .ensures)
-    (feeding-line (l .inv) (omega (arith, l .inv .long, t .before .before .before .before .before .before .before .before .before .before .before .before .before .before .before .before .if1 .left)) (heard-line t) (t .before .cut2 .given .0 .1 .0) (cut t .0) (cut t .1) (cut t .2) _ _ said _ _ (rw (n .ensures) at (c .before .before .print-answer2 .ensures))
-    (k .last .1 .1 .0) (k .last .1 .1 .1 .1 .0) (cut t .4) (k .kept .1 .1 .1 .1 .0 ∙ l .inv .room) (c .before .before .print-answer2 .kept .1 .0))
+    (feeding-line (l .inv) (omega (
+      arith,
+      l .inv .long,
+      t .before .before .before .before .before .before .before .before .before .before .before .before .before .before .before .before .if1 .left,
+    ))
+    (heard-line t) (t .before .found2 .given .0 .1 .0) (found t .0) (found t .1) (found t .2) _ _ said _ _
+    (rw (n .ensures) at (c .before .before .print-answer2 .ensures))
+    (k .last .1 .1 .0) (k .last .1 .1 .1 .1 .0) (found t .4) (k .kept .1 .1 .1 .1 .0 ∙ l .inv .room) (c .before .before .print-answer2 .kept .1 .0))
 
 same-length-3 : tie.Need-same-length-3 Inv-loop μ-loop
 same-length-3 c = search needs
@@ -256,10 +393,10 @@ feed-spec =
     sub-if1
     same-length
     returns
-    sub-held-byte
-    part-held-byte-start
-    part-held-byte-end
-    held-byte-requires
+    sub-collected-byte
+    part-collected-byte-start
+    part-collected-byte-end
+    collected-byte-requires
     enum-known-byte
     collected-requires
     heard-requires
@@ -275,18 +412,18 @@ feed-spec =
     slice-aggregate-next-line
     slice-aggregate-next-line-2
     next-line-requires
-    enum-known-cut
+    enum-known-found
     same-length-2
     returns-2
-    enum-known-cut-2
+    enum-known-found-2
     add-used-3
-    slice-aggregate-take
-    take-requires
-    enum-known-taken
+    slice-aggregate-admit-line
+    admit-line-requires
+    enum-known-admission
     print-refusal-requires
     loop-less-2
     loop-again-2
-    enum-known-taken-2
+    enum-known-admission-2
     manage-requires
     enum-known-left
     print-answer-requires

@@ -6,12 +6,13 @@ use mathlib.Core.List.{List}
 use Prim.Native.Nat.{ℕ}
 use lib.ListN.{length, length-take}
 use Rattle.base.specs.Handed.{handedReply, handedOutput}
+use Rattle.unit_text.specs.Line.{mostHeld}
 use Rattle.unit_text.proofs.FedLaws.{fed-fits}
 use Rattle.unit_text.proofs.FinishLaws.{finish-none, finish-some}
 use Rattle.unit_text.proofs.stream.Stream.finish.Statement.{statement}
 use Rattle.unit_text.proofs.stream.Stream.finish.Tie as tie
 
-line-length : (c : tie.Start) → length (c .args .self .line) ≡ 59
+line-length : (c : tie.Start) → length (c .args .self .line) ≡ mostHeld
 line-length c = search needs
 
 returns : tie.Need-returns
@@ -44,7 +45,13 @@ returns-2 c =
     let f = c .before .before .before .before .before .before .feed in
     let h = c .before .before .hand in
     let a = c .before .before .before .before .before .before .before .before .before .before .before .before .args in
-    let text = finish-some _ _ (f .last .1 .1 .0) _ (λ e. omega (arith, length-take (a .self .held) (a .self .line), (line-length (c .before .before .before .before .before .before .before .before .before .before .before .before)), c .before .before .before .before .before .before .before .before .before .if1 .left)) refl (f .ensures .0) (f .ensures .1) in
+    let text = finish-some _ _ (f .last .1 .1 .0) _
+    (λ e. omega (
+      arith,
+      length-take (a .self .held) (a .self .line),
+      (line-length (c .before .before .before .before .before .before .before .before .before .before .before .before)),
+      c .before .before .before .before .before .before .before .before .before .if1 .left,
+    )) refl (f .ensures .0) (f .ensures .1) in
     (h .ensures .0 ∙ ap (λ (l : List ℕ). handedReply l (length (a .out .now))) text, h .ensures .1 ∙ ap (λ (l : List ℕ). handedOutput l (a .out .now)) text)
 
 pub finish-spec : {M : Type 1} → statement M

@@ -4,8 +4,8 @@ use native.Mathlib.Omega.{arith}
 use Prim.Native.Nat.{_-_}
 use lib.ListN.{length, take}
 use Rattle.unit_text.proofs.FirstLine.{Holding, holding-none, holding-more, holding-ended, holding-open}
-use Rattle.unit_text.proofs.cut.hold.Statement.{statement}
-use Rattle.unit_text.proofs.cut.hold.Tie as tie
+use Rattle.unit_text.proofs.next_line.hold.Statement.{statement}
+use Rattle.unit_text.proofs.next_line.hold.Tie as tie
 
 abbrev Inv-loop : tie.InvT-loop
 Inv-loop chunk buffer₀ held passed₀ n₀ buffer passed n = Holding (take held buffer₀) chunk passed n buffer
@@ -14,7 +14,8 @@ abbrev μ-loop : tie.MeasureT-loop
 μ-loop chunk buffer₀ held passed₀ n₀ buffer passed n = length chunk - passed
 
 loop-holds : tie.Need-loop-holds Inv-loop μ-loop
-loop-holds c = let a = c .before .before .args in holding-none (a .chunk .now) (a .buffer .now) (a .held) (c .before .before .pre .0) (c .before .before .pre .1)
+loop-holds c = let a = c .before .before .args in holding-none (a .chunk .now) (a .buffer .now) (a .held) (c .before .before .pre .0)
+    (c .before .before .pre .1)
 
 shared-slice-read-character : tie.Need-shared-slice-read-character Inv-loop μ-loop
 shared-slice-read-character c = search needs

@@ -1,4 +1,4 @@
--- A line is cut off by what was held up to LF or to the chunk's end.
+-- The next line is what was held up to LF or to the chunk's end.
 use mathlib.Core.Path.{_≡_, refl, ap, _∙_}
 use mathlib.Core.Bool.{Bool, true, false}
 use mathlib.Core.List.{List, [], _∷_, _++_}
@@ -7,14 +7,14 @@ use native.Mathlib.Omega.{arith}
 use lib.Dec.{eqb}
 use lib.ListN.{length, take}
 use Rattle.base.specs.Choice.{pick}
-use Rattle.unit_text.specs.Line.{lineEnd, readLine, lineRead, recordLength}
-use Rattle.unit_text.specs.Cut.{firstLine, HeldTo, WholeFrom, CutFrom}
+use Rattle.unit_text.specs.Line.{lineEnd, readLine, lineRead, recordLength, longestRecord, mostHeld}
+use Rattle.unit_text.specs.NextLine.{firstLine, LineHeldTo, InPlaceFrom, NextFrom}
 use Rattle.unit_text.specs.declared.line.LineRead.{LineRead}
 use Rattle.unit_text.specs.declared.line.LineRead.the-variants as read
-use Rattle.unit_text.specs.declared.cut.Whole.the-variants.{Record}
-use Rattle.unit_text.specs.declared.cut.Held.{Held}
-use Rattle.unit_text.specs.declared.cut.Cut.the-variants.{Open, Line}
-use Rattle.unit_text.proofs.CutLine.{cut-line}
+use Rattle.unit_text.specs.declared.next_line.InPlace.the-variants.{Record}
+use Rattle.unit_text.specs.declared.next_line.LineHeld.{LineHeld}
+use Rattle.unit_text.specs.declared.next_line.NextLine.the-variants.{Open, Ended}
+use Rattle.unit_text.proofs.HeldEnough.{enough-line}
 
 -- a first line as long as its chunk is the chunk
 pub first-within : (chunk : List ℕ) → length (firstLine chunk) ≤ length chunk
@@ -36,19 +36,19 @@ first-whole (c ∷ chunk) e = by (eqb c lineEnd) (first-whole chunk) e
     by true whole e = absurd (omega arith)
     by false whole e = ap (λ (l : List ℕ). c ∷ l) (whole (omega arith))
 
-module _ {begun chunk buffer : List ℕ} {h : Held} (k : HeldTo begun chunk h buffer) (bytes : List ℕ) where
-  pub cut-open : h .passed ≡ length chunk → CutFrom begun chunk (Open (h .held)) buffer bytes
-  cut-open e =
+module _ {begun chunk buffer : List ℕ} {h : LineHeld} (k : LineHeldTo begun chunk h buffer) (bytes : List ℕ) where
+  pub next-open : h .passed ≡ length chunk → NextFrom begun chunk (Open (h .held)) buffer bytes
+  next-open e =
       let whole : firstLine chunk ≡ chunk = first-whole chunk (omega (arith, k .passed)) in
       (whole, rw whole at (k .holds))
 
-  pub cut-ended : (r : LineRead) → (h .passed ≡ length chunk → ⊥) → lineRead r bytes ≡ readLine (take (h .held) buffer)
-      → recordLength r ≤ 29 → CutFrom begun chunk (Line r (h .passed + 1)) buffer bytes
-  cut-ended r n e l =
+  pub next-ended : (r : LineRead) → (h .passed ≡ length chunk → ⊥) → lineRead r bytes ≡ readLine (take (h .held) buffer)
+      → recordLength r ≤ longestRecord → NextFrom begun chunk (Ended r (h .passed + 1)) buffer bytes
+  next-ended r n e l =
       let short : length (firstLine chunk) < length chunk = omega (arith, k .passed, first-within chunk, shorter) in (
         short,
         omega (arith, k .passed),
-        e ∙ ap readLine (k .holds .held) ∙ cut-line (begun ++ firstLine chunk),
+        e ∙ ap readLine (k .holds .held) ∙ enough-line (begun ++ firstLine chunk),
         l,
         k .holds .room,
       )
@@ -57,6 +57,6 @@ module _ {begun chunk buffer : List ℕ} {h : Held} (k : HeldTo begun chunk h bu
       shorter q = n (k .passed ∙ q)
 
 -- a line that lies in the chunk whole
-pub cut-whole : (chunk bytes buffer : List ℕ) (n : ℕ) → length buffer ≡ 59 → WholeFrom chunk (Record n) bytes
-    → CutFrom [] chunk (Line (read.Record n) (2 * n + 1)) buffer bytes
-cut-whole chunk bytes buffer n room w = (w .0, omega (arith, w .1), w .2, w .3, room)
+pub next-in-place : (chunk bytes buffer : List ℕ) (n : ℕ) → length buffer ≡ mostHeld → InPlaceFrom chunk (Record n) bytes
+    → NextFrom [] chunk (Ended (read.Record n) (2 * n + 1)) buffer bytes
+next-in-place chunk bytes buffer n room w = (w .0, omega (arith, w .1), w .2, w .3, room)

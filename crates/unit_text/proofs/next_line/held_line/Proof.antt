@@ -3,9 +3,9 @@ use borrow.Author.Needs.{needs}
 use native.Mathlib.Omega.{arith}
 use mathlib.Core.Path.{sym}
 use lib.Seq.{length-take-le}
-use Rattle.unit_text.proofs.CutLaws.{first-within, cut-open, cut-ended}
-use Rattle.unit_text.proofs.cut.held_line.Statement.{statement}
-use Rattle.unit_text.proofs.cut.held_line.Tie as tie
+use Rattle.unit_text.proofs.NextLineLaws.{first-within, next-open, next-ended}
+use Rattle.unit_text.proofs.next_line.held_line.Statement.{statement}
+use Rattle.unit_text.proofs.next_line.held_line.Tie as tie
 
 hold-requires : tie.Need-hold-requires
 hold-requires c κs = search needs
@@ -14,7 +14,8 @@ same-length : tie.Need-same-length
 same-length c = search needs
 
 returns : tie.Need-returns
-returns c = let h = c .before .before .before .hold in cut-open (h .ensures) (c .before .before .before .before .before .before .before .before .args .bytes .now) (c .if1 .taken)
+returns c = let h = c .before .before .before .hold in next-open (h .ensures)
+    (c .before .before .before .before .before .before .before .before .args .bytes .now) (c .if1 .taken)
 
 slice-reshare-prefix-read-line : tie.Need-slice-reshare-prefix-read-line
 slice-reshare-prefix-read-line c = search needs
@@ -30,7 +31,13 @@ read-line-requires c κs = search needs
 add-t11 : tie.Need-add-t11
 add-t11 c =
     let h = c .before .before .before .before .before .before .before .before .hold in
-    omega (arith, h .ensures .passed, first-within (c .before .before .before .before .before .before .before .before .before .before .before .before .before .args .chunk .now), c .before .before .before .before .before .before .before .before .before .before .before .before .before .good)
+    omega (
+      arith,
+      h .ensures .passed,
+      first-within
+          (c .before .before .before .before .before .before .before .before .before .before .before .before .before .args .chunk .now),
+      c .before .before .before .before .before .before .before .before .before .before .before .before .before .good,
+    )
 
 same-length-2 : tie.Need-same-length-2
 same-length-2 c = search needs
@@ -42,7 +49,7 @@ returns-2 : tie.Need-returns-2
 returns-2 c =
     let h = c .before .before .before .before .before .before .before .before .hold in
     let r = c .before .before .read-line in
-    cut-ended (h .ensures) _ (r .result) (c .before .before .before .before .before .if1 .left) (r .ensures .0) (r .ensures .1)
+    next-ended (h .ensures) _ (r .result) (c .before .before .before .before .before .if1 .left) (r .ensures .0) (r .ensures .1)
 
 pub held-line-spec : {M : Type 1} → statement M
 held-line-spec =

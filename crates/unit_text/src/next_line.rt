@@ -1,11 +1,12 @@
-// Lines are cut off the front of a chunk. What a chunk's end leaves of a line is held in a buffer of
+// The next line at the front of a chunk. What the chunk's end leaves of a line is held in a buffer of
 // 59: one more than the widest line, so that it needs no mark for a line that is too wide.
 ghost use mathlib.Core.Path.{_≡_};
 ghost use mathlib.Core.List.{[], _∷_, _++_};
 ghost use Prim.Native.Nat.{_≤_};
 ghost use lib.ListN.{length, take};
 ghost use Rattle.unit_text.specs.Digit.{DigitTabled};
-ghost use Rattle.unit_text.specs.Cut.{Holds, HeldTo, WholeFrom, EndedAt, CutFrom};
+ghost use Rattle.unit_text.specs.NextLine.{BufferHolds, LineHeldTo, InPlaceFrom, EndedAt, NextFrom};
+ghost use Rattle.unit_text.specs.Line.{longestRecord, mostHeld};
 use crate::line::LINE_END;
 use crate::line::LONGEST_RECORD;
 use crate::line::LineRead;
@@ -15,22 +16,22 @@ use crate::pair::pair;
 
 pub(crate) const HELD: usize = 59;
 
-pub(crate) enum Cut {
+pub(crate) enum NextLine {
     // The chunk ends before the line does; so many characters are held.
     Open(usize),
-    // A line, read, and the place behind its end.
-    Line(LineRead, usize),
+    // LF ends the line. What was read of it, and the place behind LF.
+    Ended(LineRead, usize),
 }
 
 // A line that lies in a chunk from the chunk's front to an LF.
-enum Whole {
+enum InPlace {
     // So many bytes.
     Record(usize),
     // It goes on behind the chunk, or it may be refused: it is read by way of the buffer.
     Other,
 }
 
-struct Held {
+struct LineHeld {
     passed: usize,
     held: usize,
 }
@@ -42,14 +43,14 @@ pub(crate) fn next_line(
     buffer: &mut [u8],
     held: usize,
     bytes: &mut [u8],
-) -> Cut
-    requires { ⌜ DigitTabled (now digits) × (length (now bytes) ≡ 29) × (length (now buffer) ≡ 59) × (held ≤ 59) ⌝ }
-    ensures { λ r. ⌜ CutFrom (take held (now (buffer .entry))) (now (chunk .entry)) r (now (buffer .exit)) (now (bytes .exit)) ⌝ }
+) -> NextLine
+    requires { ⌜ DigitTabled (now digits) × (length (now bytes) ≡ longestRecord) × (length (now buffer) ≡ mostHeld) × (held ≤ mostHeld) ⌝ }
+    ensures { λ r. ⌜ NextFrom (take held (now (buffer .entry))) (now (chunk .entry)) r (now (buffer .exit)) (now (bytes .exit)) ⌝ }
 {
     if held == 0 {
-        let whole = whole_line(digits, chunk, bytes);
-        if let Whole::Record(n) = whole {
-            return Cut::Line(LineRead::Record(n), 2 * n + 1);
+        let in_place = line_in_place(digits, chunk, bytes);
+        if let InPlace::Record(n) = in_place {
+            return NextLine::Ended(LineRead::Record(n), 2 * n + 1);
         }
         return held_line(digits, chunk, buffer, held, bytes);
     }
@@ -63,23 +64,23 @@ fn held_line(
     buffer: &mut [u8],
     held: usize,
     bytes: &mut [u8],
-) -> Cut
-    requires { ⌜ DigitTabled (now digits) × (length (now bytes) ≡ 29) × (length (now buffer) ≡ 59) × (held ≤ 59) ⌝ }
-    ensures { λ r. ⌜ CutFrom (take held (now (buffer .entry))) (now (chunk .entry)) r (now (buffer .exit)) (now (bytes .exit)) ⌝ }
+) -> NextLine
+    requires { ⌜ DigitTabled (now digits) × (length (now bytes) ≡ longestRecord) × (length (now buffer) ≡ mostHeld) × (held ≤ mostHeld) ⌝ }
+    ensures { λ r. ⌜ NextFrom (take held (now (buffer .entry))) (now (chunk .entry)) r (now (buffer .exit)) (now (bytes .exit)) ⌝ }
 {
     let h = hold(chunk, buffer, held);
     let passed = h.passed;
     let n = h.held;
     if passed == chunk.len() {
-        return Cut::Open(n);
+        return NextLine::Open(n);
     }
-    Cut::Line(read_line(digits, &buffer[..n], bytes), passed + 1)
+    NextLine::Ended(read_line(digits, &buffer[..n], bytes), passed + 1)
 }
 
 // Reads a line from where it stands, as nearly every line can be.
-fn whole_line(digits: &[u8; 256], chunk: &[u8], bytes: &mut [u8]) -> Whole
-    requires { ⌜ DigitTabled (now digits) × (length (now bytes) ≡ 29) ⌝ }
-    ensures { λ r. ⌜ WholeFrom (now (chunk .entry)) r (now (bytes .exit)) ⌝ }
+fn line_in_place(digits: &[u8; 256], chunk: &[u8], bytes: &mut [u8]) -> InPlace
+    requires { ⌜ DigitTabled (now digits) × (length (now bytes) ≡ longestRecord) ⌝ }
+    ensures { λ r. ⌜ InPlaceFrom (now (chunk .entry)) r (now (bytes .exit)) ⌝ }
 {
     let mut place: usize = 0;
     let mut n: usize = 0;
@@ -99,40 +100,40 @@ fn whole_line(digits: &[u8; 256], chunk: &[u8], bytes: &mut [u8]) -> Whole
 }
 
 // Whether LF stands at the place behind the characters of `n` bytes.
-fn ended(chunk: &[u8], place: usize, n: usize) -> Whole
+fn ended(chunk: &[u8], place: usize, n: usize) -> InPlace
     ensures { λ r. ⌜ EndedAt (now (chunk .entry)) place n r ⌝ }
 {
     if chunk.len() <= place {
-        return Whole::Other;
+        return InPlace::Other;
     }
     if chunk[place] != LINE_END {
-        return Whole::Other;
+        return InPlace::Other;
     }
-    Whole::Record(n)
+    InPlace::Record(n)
 }
 
 // Holds the characters before LF.
-fn hold(chunk: &[u8], buffer: &mut [u8], held: usize) -> Held
-    requires { ⌜ (length (now buffer) ≡ 59) × (held ≤ 59) ⌝ }
-    ensures { λ r. ⌜ HeldTo (take held (now (buffer .entry))) (now (chunk .entry)) r (now (buffer .exit)) ⌝ }
+fn hold(chunk: &[u8], buffer: &mut [u8], held: usize) -> LineHeld
+    requires { ⌜ (length (now buffer) ≡ mostHeld) × (held ≤ mostHeld) ⌝ }
+    ensures { λ r. ⌜ LineHeldTo (take held (now (buffer .entry))) (now (chunk .entry)) r (now (buffer .exit)) ⌝ }
 {
     let mut passed: usize = 0;
     let mut n = held;
     while passed < chunk.len() {
         let character = chunk[passed];
         if character == LINE_END {
-            return Held { passed, held: n };
+            return LineHeld { passed, held: n };
         }
         n = hold_one(buffer, n, character);
         passed += 1;
     }
-    Held { passed, held: n }
+    LineHeld { passed, held: n }
 }
 
 // One character more, or none where the line is already too wide.
 fn hold_one(buffer: &mut [u8], n: usize, character: u8) -> usize
-    requires { ⌜ (length (now buffer) ≡ 59) × (n ≤ 59) ⌝ }
-    ensures { λ r. ⌜ Holds (take n (now (buffer .entry)) ++ character ∷ []) r (now (buffer .exit)) ⌝ }
+    requires { ⌜ (length (now buffer) ≡ mostHeld) × (n ≤ mostHeld) ⌝ }
+    ensures { λ r. ⌜ BufferHolds (take n (now (buffer .entry)) ++ character ∷ []) r (now (buffer .exit)) ⌝ }
 {
     if n < HELD {
         buffer[n] = character;

@@ -4,8 +4,8 @@ use mathlib.Core.Path.{sym, ap}
 use lib.Seq.{length-take-le}
 use Rattle.unit_text.specs.Line.{recordLength}
 use borrow.Author.Needs.{needs}
-use Rattle.unit_text.proofs.answer.take.Statement.{statement}
-use Rattle.unit_text.proofs.answer.take.Tie as tie
+use Rattle.unit_text.proofs.answer.admit_line.Statement.{statement}
+use Rattle.unit_text.proofs.answer.admit_line.Tie as tie
 
 enum-known-read : tie.Need-enum-known-read
 enum-known-read c = search needs
@@ -16,7 +16,8 @@ enum-known-read-2 c = search needs
 slice-aggregate-admit : tie.Need-slice-aggregate-admit
 slice-aggregate-admit c =
     let n = c .before .before .read2 .given in
-    sym (length-take-le (n .0 .0) (c .before .before .before .before .before .args .bytes .now) (omega (arith, ap recordLength (n .1), c .before .before .before .before .before .pre)))
+    sym (length-take-le (n .0 .0) (c .before .before .before .before .before .args .bytes .now)
+    (omega (arith, ap recordLength (n .1), c .before .before .before .before .before .pre)))
 
 admit-requires : tie.Need-admit-requires
 admit-requires c κs = search needs
@@ -27,8 +28,8 @@ returns c = rw (c .before .read .given .1)
 returns-2 : tie.Need-returns-2
 returns-2 c = rw (c .before .before .before .read2 .given .1) (c .admit .ensures)
 
-pub take-spec : {M : Type 1} → statement M
-take-spec =
+pub admit-line-spec : {M : Type 1} → statement M
+admit-line-spec =
     tie.close
     (tie.spec
     enum-known-read

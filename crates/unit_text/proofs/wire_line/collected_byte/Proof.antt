@@ -1,10 +1,10 @@
 -- Each test is one of the conditions; the line itself is the other function's.
 use mathlib.Core.Path.{sym, _∙_}
 use borrow.Author.Tests.{not-false}
-use Rattle.unit_text.proofs.WireRead.{held-wire}
+use Rattle.unit_text.proofs.WireRead.{collected-wire}
 use borrow.Author.Needs.{needs}
-use Rattle.unit_text.proofs.wire_line.held_byte.Statement.{statement}
-use Rattle.unit_text.proofs.wire_line.held_byte.Tie as tie
+use Rattle.unit_text.proofs.wire_line.collected_byte.Statement.{statement}
+use Rattle.unit_text.proofs.wire_line.collected_byte.Tie as tie
 
 returns : tie.Need-returns
 returns c = search needs
@@ -22,8 +22,10 @@ wire-line-requires : tie.Need-wire-line-requires
 wire-line-requires c κs = search needs
 
 returns-4 : tie.Need-returns-4
-returns-4 c = held-wire _ _ _ _ (c .wire-line .result) (c .before .before .before .before .if1 .left) (not-false _ (c .before .before .before .if2 .left)) (sym (c .before .before .collects .ensures) ∙ not-false _ (c .before .if3 .left)) (c .wire-line .ensures)
+returns-4 c = collected-wire _ _ _ _ (c .wire-line .result) (c .before .before .before .before .if1 .left)
+    (not-false _ (c .before .before .before .if2 .left)) (sym (c .before .before .collects .ensures) ∙ not-false _ (c .before .if3 .left))
+    (c .wire-line .ensures)
 
-pub held-byte-spec : {M : Type 1} → statement M
-held-byte-spec =
+pub collected-byte-spec : {M : Type 1} → statement M
+collected-byte-spec =
     tie.close (tie.spec returns returns-2 collects-requires returns-3 wire-line-requires returns-4)

@@ -9,10 +9,10 @@ use lib.ListN.{length, getD, take, set, length-set}
 use lib.Seq.{length-take-le, take-suc-set}
 use Rattle.base.specs.Reply.{accepted}
 use Rattle.unit_text.specs.Digit.{pairOf}
-use Rattle.unit_text.specs.Line.{allDigits, pairs}
-use Rattle.unit_text.specs.Cut.{firstLine, EndedAt, WholeFrom}
-use Rattle.unit_text.specs.declared.cut.Whole.{Whole}
-use Rattle.unit_text.specs.declared.cut.Whole.the-variants.{Record, Other}
+use Rattle.unit_text.specs.Line.{allDigits, pairs, longestRecord}
+use Rattle.unit_text.specs.NextLine.{firstLine, EndedAt, InPlaceFrom}
+use Rattle.unit_text.specs.declared.next_line.InPlace.{InPlace}
+use Rattle.unit_text.specs.declared.next_line.InPlace.the-variants.{Record, Other}
 use Rattle.unit_text.proofs.LineLaws.{read-whole}
 use Rattle.unit_text.proofs.FirstLine.{first-ended}
 use Rattle.unit_text.proofs.PairsLaws.{pair-read, unended-digits, take-two, digits-more, pairs-two}
@@ -21,12 +21,12 @@ use Rattle.unit_text.proofs.PairsLaws.{pair-read, unended-digits, take-
 pub record Reading (chunk bytes : List ℕ) (place n : ℕ) : Type 0 where
   pub half : place ≡ 2 * n
   pub within : place ≤ length chunk
-  pub fits : n ≤ 29
-  pub room : length bytes ≡ 29
+  pub fits : n ≤ longestRecord
+  pub room : length bytes ≡ longestRecord
   pub digits : allDigits (take place chunk) ≡ true
   pub put : pairs (take place chunk) ≡ take n bytes
 
-pub reading-none : (chunk bytes : List ℕ) → length bytes ≡ 29 → Reading chunk bytes 0 0
+pub reading-none : (chunk bytes : List ℕ) → length bytes ≡ longestRecord → Reading chunk bytes 0 0
 unfolding allDigits pairs
 reading-none chunk bytes r = record { half = refl; within = omega arith; fits = omega arith; room = r; digits = refl; put = refl }
 
@@ -34,7 +34,7 @@ module _ {chunk bytes : List ℕ} {place n : ℕ} (k : Reading chunk bytes place
   read : length (take place chunk) ≡ place
   read = length-take-le place chunk (k .within)
 
-  pub reading-more : (v : ℕ) → n < 29 → place + 1 < length chunk → v ≡ pairOf (getD chunk place 0) (getD chunk (place + 1) 0) → v < 256
+  pub reading-more : (v : ℕ) → n < longestRecord → place + 1 < length chunk → v ≡ pairOf (getD chunk place 0) (getD chunk (place + 1) 0) → v < 256
       → Reading chunk (set bytes n v) (place + 2) (n + 1)
   reading-more v f h e below =
       let c = getD chunk place 0 in
@@ -51,7 +51,7 @@ module _ {chunk bytes : List ℕ} {place n : ℕ} (k : Reading chunk bytes place
             (sym (take-suc-set bytes n v (omega (arith, k .room))));
       }
 
-  pub reading-ended : (r : Whole) → EndedAt chunk place n r → WholeFrom chunk r bytes
+  pub reading-ended : (r : InPlace) → EndedAt chunk place n r → InPlaceFrom chunk r bytes
   reading-ended Other e = tt
   reading-ended (Record m) e =
       let line : firstLine chunk ≡ take place chunk = first-ended chunk place (unended-digits (take place chunk) (k .digits)) (e .1) (e .2) in

@@ -1,16 +1,17 @@
 -- What was read is digits two by two; LF behind it ends the line.
 use native.Mathlib.Omega.{arith}
 use Prim.Native.Nat.{_-_}
-use Rattle.unit_text.proofs.WholeLine.{Reading, reading-none, reading-more, reading-ended}
+use Rattle.unit_text.proofs.LineInPlace.{Reading, reading-none, reading-more, reading-ended}
 use borrow.Author.Needs.{needs}
-use Rattle.unit_text.proofs.cut.whole_line.Statement.{statement}
-use Rattle.unit_text.proofs.cut.whole_line.Tie as tie
+use Rattle.unit_text.specs.Line.{longestRecord}
+use Rattle.unit_text.proofs.next_line.line_in_place.Statement.{statement}
+use Rattle.unit_text.proofs.next_line.line_in_place.Tie as tie
 
 abbrev Inv-loop : tie.InvT-loop
 Inv-loop digits chunk bytes₀ place₀ n₀ bytes place n = Reading chunk bytes place n
 
 abbrev μ-loop : tie.MeasureT-loop
-μ-loop digits chunk bytes₀ place₀ n₀ bytes place n = 29 - n
+μ-loop digits chunk bytes₀ place₀ n₀ bytes place n = longestRecord - n
 
 loop-holds : tie.Need-loop-holds Inv-loop μ-loop
 loop-holds c = reading-none _ _ (c .before .before .pre .1)
@@ -78,8 +79,8 @@ same-length-3 c = search needs
 returns-3 : tie.Need-returns-3 Inv-loop μ-loop
 returns-3 c = reading-ended (c .before .before .loop .inv) (c .ended3 .result) (c .ended3 .ensures)
 
-pub whole-line-spec : {M : Type 1} → statement M
-whole-line-spec =
+pub line-in-place-spec : {M : Type 1} → statement M
+line-in-place-spec =
     tie.close
     (tie.spec
     Inv-loop

@@ -1,8 +1,8 @@
 -- The character is stored where there is room for it.
 use borrow.Author.Needs.{needs}
 use Rattle.unit_text.proofs.HoldLaws.{holds-stored, holds-full}
-use Rattle.unit_text.proofs.cut.hold_one.Statement.{statement}
-use Rattle.unit_text.proofs.cut.hold_one.Tie as tie
+use Rattle.unit_text.proofs.next_line.hold_one.Statement.{statement}
+use Rattle.unit_text.proofs.next_line.hold_one.Tie as tie
 
 slice-write-buffer : tie.Need-slice-write-buffer
 slice-write-buffer c = search needs
