@@ -1,8 +1,11 @@
 // The program: lines of records from standard input, a line with the answer to each on standard
 // output. It only reads and writes; what is printed is the stream's.
+mod output;
+
+use crate::output::write_end;
+use crate::output::write_printed;
 use libc::STDERR_FILENO;
 use libc::STDIN_FILENO;
-use libc::STDOUT_FILENO;
 use unit_text::Handed;
 use unit_text::Stream;
 ghost use mathlib.Core.Path.{_≡_};
@@ -26,11 +29,13 @@ fn pump(stream: Stream, chunk: &[u8], out: &mut [u8]) -> Pumped
     let mut stream = stream;
     let mut used: usize = 0;
     while used < chunk.len() {
-        let fed = stream.feed(&chunk[used..], out);
+        let from = used;
+        let before = stream;
+        let fed = before.feed(&chunk[from..], out);
         let written = fed.written;
         stream = fed.stream;
         used += fed.used;
-        if !io::write_all(STDOUT_FILENO, &out[..written]) {
+        if !write_printed(before, &chunk[from..used], &out[..written]) {
             return Pumped { stream, ok: false };
         }
     }
@@ -43,7 +48,7 @@ fn finish(stream: Stream, out: &mut [u8]) -> bool {
     let Handed::Written(n) = end else {
         return false;
     };
-    io::write_all(STDOUT_FILENO, &out[..n])
+    write_end(stream, &out[..n])
 }
 
 fn not_written() {
