@@ -5,3 +5,8 @@ use Rattle.blheli_telemetry.specs.Reply.{Reply, accepted, refused}
 abbrev pub numberOf : {A : Type 0} → Reply A → ℕ
 numberOf (accepted a) = 0
 numberOf (refused number) = number
+
+-- the count that a call hands back, as found where it is refused
+abbrev pub countAfter : Reply ℕ → ℕ → ℕ
+countAfter (accepted n) found = n
+countAfter (refused number) found = found

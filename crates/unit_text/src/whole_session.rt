@@ -6,7 +6,7 @@ ghost use lib.ListN.{length};
 ghost use Rattle.blheli_telemetry.specs.Choice.{pick};
 ghost use Rattle.blheli_telemetry.specs.BigEndian.{overwrite};
 ghost use Rattle.unit_text.specs.Session.{sessionText, handedReply, handedOutput};
-ghost use Rattle.unit_text.specs.Handed.{handed, numberOf, countAfter};
+ghost use Rattle.unit_text.specs.Handed.{handed};
 use crate::hand::Handed;
 use crate::hand::copy_if;
 use crate::stream::Stream;
@@ -24,23 +24,6 @@ pub fn session(text: &[u8], out: &mut [u8]) -> Handed
     match counted {
         Handed::Space => Handed::Space,
         Handed::Written(_) => pass(text, out, true),
-    }
-}
-
-// The same for C: 0 where the answers were written, and how many characters they have; or 9.
-#[no_mangle]
-pub extern "C" fn esc_unit_session(text: &[u8], out: &mut [u8], count: &mut usize) -> u8
-    ensures { λ r. ⌜ r ≡ numberOf (handedReply (sessionText (now (text .entry))) (length (now (out .entry)))) ⌝ }
-    ensures { λ _. ⌜ now (out .exit) ≡ handedOutput (sessionText (now (text .entry))) (now (out .entry)) ⌝ }
-    ensures { λ _. ⌜ now (count .exit) ≡ countAfter (handedReply (sessionText (now (text .entry))) (length (now (out .entry)))) (now (count .entry)) ⌝ }
-{
-    let told = session(text, out);
-    match told {
-        Handed::Written(n) => {
-            *count = n;
-            0
-        }
-        Handed::Space => 9,
     }
 }
 

@@ -3,9 +3,10 @@ use borrow.Author.Needs.{needs}
 use mathlib.Core.Path.{sym, ap, _∙_}
 use Prim.Native.Nat.{ℕ}
 use Rattle.blheli_telemetry.specs.Reply.{Reply}
-use Rattle.unit_text.specs.Handed.{handed, numberOf, countAfter}
-use Rattle.unit_text.proofs.whole_session.esc_unit_session.Statement.{statement}
-use Rattle.unit_text.proofs.whole_session.esc_unit_session.Tie as tie
+use Rattle.unit_text.specs.Handed.{handed}
+use Rattle.c_calls.specs.Number.{numberOf, countAfter}
+use Rattle.c_calls.proofs.session.esc_unit_session.Statement.{statement}
+use Rattle.c_calls.proofs.session.esc_unit_session.Tie as tie
 
 session-requires : tie.Need-session-requires
 session-requires c κs = search needs
