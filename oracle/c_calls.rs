@@ -5,6 +5,7 @@ extern "C" {
     fn esc_frame_write(temperature: u8, voltage: u16, current: u16, consumption: u16, erpm: u16, out: *mut u8, room: usize) -> u8;
     fn esc_stream_parse(bytes: *const u8, len: usize, gave: *mut u8, marks: usize, fields: *mut u16, room: usize, counts: *mut u32, n: usize) -> u8;
     fn esc_elapsed_at_least(start: u64, now: u64, duration: u32) -> bool;
+    fn esc_unit_session(text: *const u8, len: usize, out: *mut u8, room: usize, count: *mut usize) -> u8;
 }
 
 pub fn crc8(bytes: &[u8]) -> u8 {
@@ -22,4 +23,7 @@ pub fn stream_parse(bytes: &[u8], gave: &mut [u8], fields: &mut [u16], counts: &
 }
 pub fn elapsed_at_least(start: u64, now: u64, duration: u32) -> bool {
     unsafe { esc_elapsed_at_least(start, now, duration) }
+}
+pub fn unit_session(text: &[u8], out: &mut [u8], count: &mut usize) -> u8 {
+    unsafe { esc_unit_session(text.as_ptr(), text.len(), out.as_mut_ptr(), out.len(), count) }
 }

@@ -4,12 +4,11 @@ use mathlib.Core.List.{List}
 use Prim.Native.Nat.{ℕ, _≤_, _<_}
 use borrow.Author.Tests.{eq-eqb, ne-eqb, le-leb, lt-leb}
 use lib.ListN.{length}
-use Rattle.base.specs.Reply.{Reply}
+use Rattle.base.specs.Reply.{Reply, numberOf}
 use Rattle.blheli_telemetry.specs.Frame.{readFrame}
 use Rattle.blheli_telemetry.specs.declared.frame.EscTelemetry.{EscTelemetry}
 use Rattle.base.proofs.ByCases.{below-or-not}
 use Rattle.blheli_telemetry.proofs.FrameLaws.{read-length}
-use Rattle.base.specs.Reply.{numberOf}
 use Rattle.c_calls.specs.Frame.{fieldsOn, readNumber, fieldsRead}
 
 module _ (f out : List ℕ) where

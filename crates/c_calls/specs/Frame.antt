@@ -4,11 +4,10 @@ use mathlib.Core.List.{List, [], _∷_}
 use lib.Dec.{eqb, leb}
 use lib.ListN.{length}
 use Rattle.base.specs.Choice.{pick}
-use Rattle.base.specs.Reply.{Reply, accepted, refused}
+use Rattle.base.specs.Reply.{Reply, accepted, refused, numberOf}
 use Rattle.base.specs.BigEndian.{overwrite}
 use Rattle.blheli_telemetry.specs.Frame.{readFrame}
 use Rattle.blheli_telemetry.specs.declared.frame.EscTelemetry.{EscTelemetry}
-use Rattle.base.specs.Reply.{numberOf}
 
 abbrev pub telemetryBy : ℕ → ℕ → ℕ → ℕ → ℕ → EscTelemetry
 telemetryBy temperature voltage current consumption erpm =

@@ -13,5 +13,4 @@ mod wire_line;
 pub use stream::Fed;
 pub use stream::LONGEST_LINE;
 pub use stream::Stream;
-pub use whole_session::esc_unit_session;
 pub use whole_session::session;

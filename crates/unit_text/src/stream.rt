@@ -3,11 +3,10 @@
 ghost use mathlib.Core.Path.{_≡_};
 ghost use Prim.Native.Nat.{min};
 ghost use lib.ListN.{length};
-ghost use Rattle.base.specs.Handed.{handedReply, handedOutput};
+ghost use Rattle.base.specs.Handed.{handedReply, handedOutput, handed};
 ghost use Rattle.unit_text.specs.Stream.{atStart, feedOf, fedOutput, printedAtEnd};
 ghost use Rattle.unit_text.specs.Streams.{streamed, fed};
 ghost use Rattle.unit_text.specs.Line.{mostHeld};
-ghost use Rattle.base.specs.Handed.{handed};
 use crate::answer::admit_line;
 use crate::answer::print_answer;
 use crate::answer::print_nothing;

@@ -5,10 +5,8 @@ ghost use Prim.Native.Nat.{_≤_};
 ghost use lib.ListN.{length};
 ghost use Rattle.base.specs.Choice.{pick};
 ghost use Rattle.base.specs.BigEndian.{overwrite};
-ghost use Rattle.base.specs.Handed.{handedReply, handedOutput};
 ghost use Rattle.unit_text.specs.Session.{sessionText};
-ghost use Rattle.base.specs.Handed.{handed, countAfter};
-ghost use Rattle.base.specs.Reply.{numberOf};
+ghost use Rattle.base.specs.Handed.{handedReply, handedOutput, handed};
 use crate::hand::copy_if;
 use crate::stream::Stream;
 use base::Handed;
@@ -26,23 +24,6 @@ pub fn session(text: &[u8], out: &mut [u8]) -> Handed
     match counted {
         Handed::Space => Handed::Space,
         Handed::Written(_) => pass(text, out, true),
-    }
-}
-
-// The same for C: 0 where the answers were written, and how many characters they have; or 9.
-#[no_mangle]
-pub extern "C" fn esc_unit_session(text: &[u8], out: &mut [u8], count: &mut usize) -> u8
-    ensures { λ r. ⌜ r ≡ numberOf (handedReply (sessionText (now (text .entry))) (length (now (out .entry)))) ⌝ }
-    ensures { λ _. ⌜ now (out .exit) ≡ handedOutput (sessionText (now (text .entry))) (now (out .entry)) ⌝ }
-    ensures { λ _. ⌜ now (count .exit) ≡ countAfter (handedReply (sessionText (now (text .entry))) (length (now (out .entry)))) (now (count .entry)) ⌝ }
-{
-    let told = session(text, out);
-    match told {
-        Handed::Written(n) => {
-            *count = n;
-            0
-        }
-        Handed::Space => 9,
     }
 }
 

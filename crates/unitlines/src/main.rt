@@ -1,15 +1,18 @@
 // The program: lines of records from standard input, a line with the answer to each on standard
 // output. It only reads and writes; what is printed is the stream's.
+mod output;
+
+use crate::output::write_end;
+use crate::output::write_printed;
 use base::Handed;
 use libc::STDERR_FILENO;
 use libc::STDIN_FILENO;
-use libc::STDOUT_FILENO;
 use unit_text::Stream;
 ghost use mathlib.Core.Path.{_≡_};
 ghost use mathlib.Core.Bool.{true};
 ghost use Prim.Native.Nat.{_≤_};
 ghost use lib.ListN.{length};
-ghost use Rattle.unit_text.specs.Stream.{after};
+ghost use Rattle.unit_text.specs.Stream.{after, longestLine};
 ghost use Rattle.unit_text.specs.Streams.{streamed};
 
 // The stream after a chunk, and whether all that it printed was written.
@@ -20,17 +23,19 @@ struct Pumped {
 
 // Feeds all of a chunk to a stream.
 fn pump(stream: Stream, chunk: &[u8], out: &mut [u8]) -> Pumped
-    requires { ⌜ 87 ≤ length (now out) ⌝ }
+    requires { ⌜ longestLine ≤ length (now out) ⌝ }
     ensures { λ r. ⌜ (r .ok ≡ true → streamed (r .stream) ≡ after (streamed stream) (now (chunk .entry))) ⌝ }
 {
     let mut stream = stream;
     let mut used: usize = 0;
     while used < chunk.len() {
-        let fed = stream.feed(&chunk[used..], out);
+        let from = used;
+        let before = stream;
+        let fed = before.feed(&chunk[from..], out);
         let written = fed.written;
         stream = fed.stream;
         used += fed.used;
-        if !io::write_all(STDOUT_FILENO, &out[..written]) {
+        if !write_printed(before, &chunk[from..used], &out[..written]) {
             return Pumped { stream, ok: false };
         }
     }
@@ -43,7 +48,7 @@ fn finish(stream: Stream, out: &mut [u8]) -> bool {
     let Handed::Written(n) = end else {
         return false;
     };
-    io::write_all(STDOUT_FILENO, &out[..n])
+    write_end(stream, &out[..n])
 }
 
 fn not_written() {
@@ -56,7 +61,7 @@ fn not_written() {
 // Reads to the end of input. A loop has to end, and nothing says that the input does: the count of
 // reads ends it, and no input is that long.
 fn run(input: &mut [u8], out: &mut [u8])
-    requires { ⌜ 87 ≤ length (now out) ⌝ }
+    requires { ⌜ longestLine ≤ length (now out) ⌝ }
 {
     let mut stream = Stream::new();
     let mut turns = u64::MAX;

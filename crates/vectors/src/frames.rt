@@ -33,8 +33,8 @@ fn vector(name: &[u8], frame: &[u8]) {
     print::text(b": ");
     match decode(frame) {
         Decoded::Telemetry(t) => both_ways(t),
-        Decoded::Length => print::text(b"refused 5"),
-        Decoded::Crc => print::text(b"refused 10"),
+        Decoded::Length => print::refused(5),
+        Decoded::Crc => print::refused(10),
     }
     print::text(b"\n");
 }

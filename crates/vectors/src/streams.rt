@@ -1,5 +1,6 @@
-// The parser on streams with noise before, between and after frames. What is expected is what lib.rs
-// gave on the same bytes: each sample with the count of bytes pushed, then the three counts.
+// The parser on streams with noise before, between and after frames, pushed in place. What is expected is
+// what lib.rs gave on the same bytes: each sample with the count of bytes pushed, then the three counts.
+use crate::in_place;
 use crate::print;
 use blheli_telemetry::Parsed;
 use blheli_telemetry::StreamParser;
@@ -41,19 +42,39 @@ pub fn run() {
         b"zeros",
         b"\x00\x00\x00\x00\x00\x00\x00\x00\x00\x00\x00\x00\x00\x00\x00\x00\x00\x00\x00\x00\x00\x00\x00\x00\x00",
     );
+    after_reset();
 }
 
 fn vector(name: &[u8], bytes: &[u8]) {
-    let mut parser = StreamParser::new();
+    counts(name, fed(name, StreamParser::new(), bytes));
+}
+
+// A damaged frame, of which nine bytes are held, and a reset: the ten bytes after it are a frame of their
+// own, and the counts go on.
+fn after_reset() {
+    let held = fed(
+        b"reset",
+        StreamParser::new(),
+        b"\x19\x06\x90\x04\xd2\x02\x37\x04\xd2\xbd",
+    );
+    counts(b"reset", held);
+    let empty = in_place::reset(held);
+    let after = fed(b"reset", empty, b"\x01\x02\x03\x04\x05\x06\x07\x08\x09\x85");
+    counts(b"reset", after);
+}
+
+// The parser after the bytes, each sample shown.
+fn fed(name: &[u8], first: StreamParser, bytes: &[u8]) -> StreamParser {
+    let mut parser = first;
     let mut i: usize = 0;
     while i < bytes.len() {
-        let pushed = parser.pushed(bytes[i]);
+        let pushed = in_place::push(parser, bytes[i]);
         parser = pushed.parser;
         i += 1;
         let parsed = pushed.parsed;
         show(name, i, parsed);
     }
-    counts(name, parser);
+    parser
 }
 
 fn show(name: &[u8], pushed: usize, parsed: Parsed) {
@@ -61,8 +82,7 @@ fn show(name: &[u8], pushed: usize, parsed: Parsed) {
         return;
     };
     heading(name);
-    print::text(b"at ");
-    print::decimal(pushed as u64);
+    print::field(b"at ", pushed as u64);
     print::text(b": ");
     print::telemetry(t);
     print::text(b"\n");
@@ -71,12 +91,9 @@ fn show(name: &[u8], pushed: usize, parsed: Parsed) {
 fn counts(name: &[u8], parser: StreamParser) {
     let stats = parser.stats();
     heading(name);
-    print::text(b"frames ");
-    print::decimal(stats.valid_frames as u64);
-    print::text(b" failures ");
-    print::decimal(stats.crc_failures as u64);
-    print::text(b" discarded ");
-    print::decimal(stats.discarded_bytes as u64);
+    print::field(b"frames ", stats.valid_frames as u64);
+    print::field(b" failures ", stats.crc_failures as u64);
+    print::field(b" discarded ", stats.discarded_bytes as u64);
     print::text(b"\n");
 }
 

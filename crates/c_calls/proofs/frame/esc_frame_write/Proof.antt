@@ -2,9 +2,8 @@
 use borrow.Author.Needs.{needs}
 use mathlib.Core.Path.{sym, ap, _∙_}
 use Prim.Native.Nat.{ℕ}
-use Rattle.base.specs.Reply.{Reply}
+use Rattle.base.specs.Reply.{Reply, numberOf}
 use Rattle.blheli_telemetry.specs.Frame.{encoded}
-use Rattle.base.specs.Reply.{numberOf}
 use Rattle.c_calls.proofs.frame.esc_frame_write.Statement.{statement}
 use Rattle.c_calls.proofs.frame.esc_frame_write.Tie as tie
 

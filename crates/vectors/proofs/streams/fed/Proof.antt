@@ -3,8 +3,8 @@ use Prim.Native.Nat.{_≤_, _-_}
 use native.Mathlib.Omega.{arith}
 use borrow.Author.Needs.{needs}
 use lib.ListN.{length}
-use Rattle.vectors.proofs.streams.vector.Statement.{statement}
-use Rattle.vectors.proofs.streams.vector.Tie as tie
+use Rattle.vectors.proofs.streams.fed.Statement.{statement}
+use Rattle.vectors.proofs.streams.fed.Tie as tie
 
 abbrev Inv-loop : tie.InvT-loop
 Inv-loop name bytes parser₀ i₀ parser i = i ≤ length bytes
@@ -12,17 +12,14 @@ Inv-loop name bytes parser₀ i₀ parser i = i ≤ length bytes
 abbrev μ-loop : tie.MeasureT-loop
 μ-loop name bytes parser₀ i₀ parser i = length bytes - i
 
-new-requires : tie.Need-new-requires Inv-loop μ-loop
-new-requires c κs = search needs
-
 loop-holds : tie.Need-loop-holds Inv-loop μ-loop
 loop-holds c = omega arith
 
-shared-slice-read-pushed : tie.Need-shared-slice-read-pushed Inv-loop μ-loop
-shared-slice-read-pushed c = omega arith
+shared-slice-read-push : tie.Need-shared-slice-read-push Inv-loop μ-loop
+shared-slice-read-push c = omega arith
 
-pushed-requires : tie.Need-pushed-requires Inv-loop μ-loop
-pushed-requires c κs = search needs
+push-requires : tie.Need-push-requires Inv-loop μ-loop
+push-requires c κs = search needs
 
 add-i : tie.Need-add-i Inv-loop μ-loop
 add-i c = omega arith
@@ -36,25 +33,20 @@ loop-less c = omega arith
 loop-again : tie.Need-loop-again Inv-loop μ-loop
 loop-again c = omega arith
 
-counts-requires : tie.Need-counts-requires Inv-loop μ-loop
-counts-requires c κs = search needs
-
 returns : tie.Need-returns Inv-loop μ-loop
 returns c = search needs
 
-pub vector-spec : {M : Type 1} → statement M
-vector-spec =
+pub fed-spec : {M : Type 1} → statement M
+fed-spec =
     tie.close
     (tie.spec
     Inv-loop
     μ-loop
-    new-requires
     loop-holds
-    shared-slice-read-pushed
-    pushed-requires
+    shared-slice-read-push
+    push-requires
     add-i
     show-requires
     loop-less
     loop-again
-    counts-requires
     returns)

@@ -2,11 +2,10 @@
 use borrow.Author.Needs.{needs}
 use mathlib.Core.Path.{sym, ap, _∙_}
 use Prim.Native.Nat.{ℕ}
-use Rattle.base.specs.Reply.{Reply}
+use Rattle.base.specs.Reply.{Reply, numberOf}
 use Rattle.base.specs.Handed.{handed, countAfter}
-use Rattle.base.specs.Reply.{numberOf}
-use Rattle.unit_text.proofs.whole_session.esc_unit_session.Statement.{statement}
-use Rattle.unit_text.proofs.whole_session.esc_unit_session.Tie as tie
+use Rattle.c_calls.proofs.session.esc_unit_session.Statement.{statement}
+use Rattle.c_calls.proofs.session.esc_unit_session.Tie as tie
 
 session-requires : tie.Need-session-requires
 session-requires c κs = search needs
