@@ -1,27 +1,58 @@
 #!/usr/bin/env python3
 """What the prover does not ask of the text.
 
-Every public function of a library states its result by an `ensures` and asks nothing by a `requires`;
-every file of specs/ and proofs/ opens with a comment that says what it is or why it is true.
+Every public function has a comment that says what it is for. In a library it asks nothing by a `requires`, and
+states its result by an equation and what each lent buffer holds afterwards by another; only the capture search's
+choice is free. Every file of specs/ and proofs/ opens with a comment that says what it is or why it is true.
 """
 import re
 import sys
 from pathlib import Path
 
 CRATES = Path(__file__).resolve().parent.parent / "crates"
-# a public function's name, and all up to the brace that opens its body
-PUBLIC = re.compile(r"^ *pub (?:extern \"C\" )?fn (\w+)(.*?)\{$", re.M | re.S)
+CLAUSE = re.compile(r"^\s*ensures(?: \w+)? \{ λ (\w+)\. (.*) \}$", re.M)
+# what a definition of specs/ says of the result where no equation could
+FREE = {"find_frame": "Searched"}
+
+
+def functions(path):
+    text = path.read_text()
+    for found in re.finditer(r"^ *pub (?:extern \"C\" )?fn (\w+)(.*?)\{$", text, re.M | re.S):
+        above = [line.strip() for line in text[: found.start()].split("\n")[:-1] if not line.strip().startswith("#[")]
+        yield found[1], found[2], bool(above) and above[-1].startswith("//")
+
+
+def stated(name, clauses):
+    """Whether a clause says what the result is."""
+    for binder, fact in clauses:
+        if re.search(rf"(?<!\w){binder}(?!\w)", fact) and ("≡" in fact or FREE.get(name, "\0") in fact):
+            return True
+    return False
 
 
 def contracts(path):
-    for name, head in PUBLIC.findall(path.read_text()):
+    for name, head, _ in functions(path):
         if re.search(r"^\s*requires\b", head, re.M):
             yield f"{path}: pub fn {name} has a `requires`"
-        if not re.search(r"^\s*ensures\b", head, re.M):
-            yield f"{path}: pub fn {name} has no `ensures`"
+        clauses = CLAUSE.findall(head)
+        if len(clauses) != len(re.findall(r"^\s*ensures\b", head, re.M)):
+            yield f"{path}: pub fn {name} has an `ensures` that can't be read here"
+        signature = re.split(r"^\s*(?:requires|ensures)\b", head, maxsplit=1, flags=re.M)[0]
+        if "->" in signature and not stated(name, clauses):
+            yield f"{path}: pub fn {name} does not state its result by an equation"
+        for lent in re.findall(r"(\w+): &(?:'\w+ )?mut |&mut (self)", signature):
+            buffer = lent[0] or lent[1]
+            if not any(f"now ({buffer} .exit) ≡" in fact for _, fact in clauses):
+                yield f"{path}: pub fn {name} does not state by an equation what {buffer} holds afterwards"
 
 
-def comments(path):
+def purposes(path):
+    for name, _, commented in functions(path):
+        if not commented:
+            yield f"{path}: pub fn {name} has no comment"
+
+
+def openings(path):
     if not path.read_text().startswith("-- "):
         yield f"{path}: no comment at its top"
 
@@ -29,7 +60,8 @@ def comments(path):
 def main():
     libraries = [crate for crate in CRATES.iterdir() if not (crate / "src/main.rt").exists()]
     faults = [fault for crate in libraries for path in crate.glob("src/**/*.rt") for fault in contracts(path)]
-    faults += [fault for path in CRATES.glob("*/*/**/*.antt") for fault in comments(path)]
+    faults += [fault for path in CRATES.glob("*/src/**/*.rt") for fault in purposes(path)]
+    faults += [fault for path in CRATES.glob("*/*/**/*.antt") for fault in openings(path)]
     for fault in sorted(faults):
         print(fault)
     sys.exit(1 if faults else 0)
