@@ -5,7 +5,7 @@ mod layout;
 mod unit;
 use esc_manager::*;
 use ferrowasp_blheli_telemetry::{crc8, decode, EscTelemetry, StreamParser};
-use layout::{write_answer, Lines};
+use layout::{read_record, write_answer, Lines};
 use unit::{Record, Unit};
 
 const CRUISE: &[u8] = b"\x19\x06\x90\x04\xd2\x02\x37\x04\xd2\xbc";
@@ -67,7 +67,7 @@ fn fed(name: &str, parser: &mut StreamParser, bytes: &[u8]) {
 }
 fn counts(name: &str, parser: &StreamParser) {
     let s = parser.stats();
-    println!("stream {name}: frames {} failures {} discarded {}", s.valid_frames, s.crc_failures, s.discarded_bytes);
+    println!("stream {name}: counts {} {} {}", s.valid_frames, s.crc_failures, s.discarded_bytes);
 }
 fn streams() {
     let lost = [&CRUISE[..3], &CRUISE[4..], COUNTING, CRUISE].concat();
@@ -109,53 +109,43 @@ fn captures() {
         let found: Vec<usize> = capture.windows(10).enumerate().filter(|(_, w)| good(w)).map(|(i, _)| i).collect();
         match found[..] {
             [] => println!("capture {name}: none"),
-            [start] => println!("capture {name}: at {start}"),
+            [start] => println!("capture {name}: {start}"),
             _ => panic!("{name} has several good windows"),
         }
     }
 }
 
 fn lanes() {
-    for (i, place) in ["first", "second", "third", "fourth"].iter().enumerate() {
-        println!("lane {place}: index {}, next {}", EscOutput::ALL[i].index(), EscOutput::ALL[(i + 1) % 4].index());
+    for (i, lane) in EscOutput::ALL.iter().enumerate() {
+        println!("lane {} {}", lane.index(), EscOutput::ALL[(i + 1) % 4].index());
     }
 }
 
-fn check(name: &str, c: EscIdleQualificationConfig) {
+fn check(c: EscIdleQualificationConfig) {
     let numbers = [c.min_erpm_div100.into(), c.max_erpm_div100.into(), c.spinup_grace_ms, c.timeout_ms, c.max_sample_age_ms];
-    let numbers: Vec<String> = numbers.iter().map(u32::to_string).collect();
     let valid = if c.is_valid() { "valid" } else { "invalid" };
-    println!("settings idle {name}: {} {}, {valid}", numbers.join(" "), c.required_consecutive_samples);
+    println!("{valid} settings {} {}", numbers.map(|n| n.to_string()).join(" "), c.required_consecutive_samples);
 }
 fn settings() {
     let c = EscManagerConfig::legacy_uart();
     let times = [c.boot_delay_ms, c.request_period_ms, c.actuator_ack_timeout_ms, c.telemetry_response_timeout_ms, c.recovery_quiet_ms];
-    println!("settings legacy_uart: {}", times.map(|t| t.to_string()).join(" "));
-    println!("settings expiry {ESC_REQUEST_EXPIRY_MS}, backoff {ESC_RETRY_BACKOFF_STEPS}, hold {DSHOT_PREARM_STOP_HOLD_MS}, throttle {DSHOT_IDLE_THROTTLE_COMMAND}");
-    let d = DSHOT_IDLE_QUALIFICATION_CONFIG;
-    check("constant", d);
-    check("call", d);
-    for min in [0, 1, 99, 100] {
-        check(&format!("min {min}"), EscIdleQualificationConfig { min_erpm_div100: min, ..d });
+    println!("settings legacy_uart {}", times.map(|t| t.to_string()).join(" "));
+    print!("settings expiry, backoff, hold, throttle {ESC_REQUEST_EXPIRY_MS} {ESC_RETRY_BACKOFF_STEPS} ");
+    println!("{DSHOT_PREARM_STOP_HOLD_MS} {DSHOT_IDLE_THROTTLE_COMMAND}");
+    // the constant and the call that gives it
+    check(DSHOT_IDLE_QUALIFICATION_CONFIG);
+    check(DSHOT_IDLE_QUALIFICATION_CONFIG);
+    let limits = [
+        (0, 100, 250, 1200, 200, 3),
+        (1, 2, 0, 1, 1, 1),
+        (100, 100, 250, 1200, 200, 3),
+        (30, 100, 1200, 1200, 200, 3),
+        (30, 100, 250, 1200, 0, 3),
+        (30, 100, 250, 1200, 200, 0),
+    ];
+    for (min_erpm_div100, max_erpm_div100, spinup_grace_ms, timeout_ms, max_sample_age_ms, required_consecutive_samples) in limits {
+        check(EscIdleQualificationConfig { min_erpm_div100, max_erpm_div100, spinup_grace_ms, timeout_ms, max_sample_age_ms, required_consecutive_samples });
     }
-    for grace in [1199, 1200] {
-        check(&format!("grace {grace}"), EscIdleQualificationConfig { spinup_grace_ms: grace, ..d });
-    }
-    for age in [0, 1] {
-        check(&format!("age {age}"), EscIdleQualificationConfig { max_sample_age_ms: age, ..d });
-    }
-    for required in [0, 1] {
-        check(&format!("required {required}"), EscIdleQualificationConfig { required_consecutive_samples: required, ..d });
-    }
-    let largest = EscIdleQualificationConfig {
-        min_erpm_div100: u16::MAX - 1,
-        max_erpm_div100: u16::MAX,
-        spinup_grace_ms: u32::MAX - 1,
-        timeout_ms: u32::MAX,
-        max_sample_age_ms: u32::MAX,
-        required_consecutive_samples: u8::MAX,
-    };
-    check("largest", largest);
 }
 
 fn idle() {
@@ -170,19 +160,18 @@ fn idle() {
         for (lane, erpm_div100, at) in samples {
             let sample = EscTelemetry { temperature_c: 0, voltage_cv: 0, current_ca: 0, consumption_mah: 0, erpm_div100: *erpm_div100 };
             let observation = EscTelemetryObservation { sample, observed_at_ms: *at, request_sequence: 0 };
-            let status = check.observe(EscTelemetryUpdate { output: EscOutput::ALL[*lane], observation }, *at);
-            let counts = check.consecutive_samples().map(|n| n.to_string()).join(" ");
-            let verdict = match status {
+            let verdict = match check.observe(EscTelemetryUpdate { output: EscOutput::ALL[*lane], observation }, *at) {
                 EscIdleQualificationStatus::Pending => "pending",
                 EscIdleQualificationStatus::Qualified => "qualified",
                 EscIdleQualificationStatus::Failed(_) => "failed",
             };
-            println!("idle at {at}, eRPM/100 {erpm_div100}: {counts}, {verdict}");
+            println!("idle {verdict} {at} {erpm_div100} {}", check.consecutive_samples().map(|n| n.to_string()).join(" "));
         }
     }
 }
 
-/// Document 01: the four bytes are the motors of lanes 0 to 3; 5 not four, 12 not each of 1 to 4 once, 6 out of range.
+/// Document 01: the four bytes are the motors of lanes 0 to 3; 5 not four, 12 not each of 1 to 4 once. A lane above 3 and
+/// a motor that is not 1 to 4 are a dash.
 fn board_map() {
     let maps: [&[u8]; 9] = [
         &[1, 2, 3, 4], &[3, 1, 4, 2], &[], &[1, 2, 3], &[1, 1, 1], &[1, 2, 3, 4, 4], &[1, 2, 3, 3], &[0, 1, 2, 3], &[2, 3, 4, 5],
@@ -194,13 +183,10 @@ fn board_map() {
         } else if !(1..=4).all(|m| map.contains(&m)) {
             println!("refused 12");
         } else {
-            let told = |x: Option<usize>| x.map_or("refused 6".to_string(), |n| n.to_string());
-            let lane_of = |motor: u8| map.iter().position(|m| *m == motor);
-            for motor in map {
-                print!("{motor} on {}; ", lane_of(*motor).unwrap());
-            }
-            let motors = [0, 3, 4, 255].map(|lane: usize| told(map.get(lane).map(|m| usize::from(*m))));
-            println!("lanes {}; motors {}", motors.join(" "), [0, 1, 4, 5].map(|m| told(lane_of(m))).join(" "));
+            let told = |x: Option<usize>| x.map_or("-".to_string(), |n| n.to_string());
+            let motors = [0, 1, 2, 3, 4].map(|lane: usize| told(map.get(lane).map(|m| usize::from(*m))));
+            let lanes = [0, 1, 2, 3, 4, 5].map(|motor: u8| told(map.iter().position(|m| *m == motor)));
+            println!("lanes {}, motors {}", motors.join(" "), lanes.join(" "));
         }
     }
 }
@@ -208,31 +194,46 @@ fn board_map() {
 /// Document 01: eRPM/100 × 200 divided by magnets, rounded down; 11 zero or odd.
 fn speed() {
     for (erpm, magnets) in [(70, 14), (70, 13), (70, 0), (70, 1), (0, 2), (1, 14), (65535, 2), (65535, 254), (65535, 255)] {
-        print!("speed {erpm} by {magnets}: ");
         if magnets == 0 || magnets % 2 == 1 {
-            println!("refused 11");
+            println!("speed refused 11 {erpm} {magnets}");
         } else {
-            println!("{}", erpm * 200 / magnets);
+            println!("speed {erpm} {magnets} {}", erpm * 200 / magnets);
         }
     }
 }
 
-/// With room for any answer; or with room for six bytes, and what then stands there. None of the records that are
-/// called so changes the unit, so that a refusal by 9 has nothing to undo.
-fn call(lines: &mut Lines, short: bool, record: &[u8]) {
-    let mut printed = Vec::new();
+/// The answer, or the number that refuses it, and a room that is less than any answer takes. None of the records that
+/// lack room changes the unit, so that a refusal by 9 has nothing to undo.
+fn call(lines: &mut Lines, room: usize, record: &[u8]) {
+    let (mut printed, mut out) = (Vec::new(), "a5".repeat(room));
     let reply = lines.answer(hex(record).as_bytes(), &mut printed);
     let answer = String::from_utf8(printed).unwrap().trim_end().to_string();
-    let (told, left) = match reply {
-        Err(number) => (format!("refused {number}"), String::new()),
-        Ok(_) if short && answer.len() > 12 => ("refused 9".into(), String::new()),
-        Ok(_) => (answer.clone(), answer),
+    let told = match reply {
+        Err(number) => format!("refused {number}"),
+        Ok(_) if answer.len() > out.len() => "refused 9".into(),
+        Ok(_) => {
+            out.replace_range(..answer.len(), &answer);
+            answer
+        }
     };
     print!("call {}: {told}", hex(record));
-    println!("{}", if short { format!(", left {left}{}", &"a5".repeat(6)[left.len()..]) } else { String::new() });
+    println!("{}", if room < 43 { format!(", room {out}") } else { String::new() });
 }
-fn calls() {
-    let mut lines = Lines::default();
+/// A record that can't be read is no step. The unit that is stepped has had the same records as the one that is called.
+fn step(unit: &mut Option<Unit>, record: &[u8]) {
+    let Ok(record) = read_record(record) else { return };
+    let mut answer = Vec::new();
+    match (record, unit) {
+        (Record::Open(config, boot), unit) => {
+            *unit = Some(Unit::new(config, boot));
+            answer.push(0);
+        }
+        (record, Some(unit)) => write_answer(&unit.step(record), &mut answer),
+        (_, None) => return println!("step: refused 8"),
+    }
+    println!("step: {}", hex(&answer));
+}
+fn session() {
     let at = |first: &[u8], t: u64| [first, &t.to_be_bytes()].concat();
     let payload = [0x19, 0x06, 0x90, 0x04, 0xd2, 0x02, 0x37, 0x00, 0x32];
     let unopened = vec![vec![6], vec![0x0f], vec![0]];
@@ -250,27 +251,13 @@ fn calls() {
         at(&[0x0b], 528), vec![8], vec![8], vec![6], vec![9], vec![0x0c], vec![0x0d, 1], vec![0x0d, 2], vec![0x0e, 1],
     ];
     let refused = vec![vec![0x0f], vec![5, 0], vec![0x0d, 4], at(&[7, 2], 0)];
-    for record in [unopened, document_01, delivered, booked, refused].concat() {
-        call(&mut lines, false, &record);
-    }
-    for record in [at(&[1], 528), vec![0x0c], vec![6]] {
-        call(&mut lines, true, &record);
-    }
-    call(&mut lines, false, &at(&[1], 528));
-}
-
-fn steps() {
-    println!("step: refused 8");
-    let config = EscManagerConfig { boot_delay_ms: 0, request_period_ms: 0, ..EscManagerConfig::legacy_uart() };
-    let mut unit = Unit::new(config, 0);
-    let records = [
-        Record::Open(config, 0), Record::Next(0), Record::Mark(0, 0, 0), Record::Mark(0, 0, 0),
-        Record::Poll(20), Record::Recover(false, 519), Record::Recover(false, 520),
-    ];
-    for record in records {
-        let mut answer = Vec::new();
-        write_answer(&unit.step(record), &mut answer);
-        println!("step: {}", hex(&answer));
+    let whole = [unopened, document_01, delivered, booked, refused].concat();
+    let short = [(6, at(&[1], 528)), (7, at(&[1], 528)), (3, vec![6]), (42, vec![0x0c]), (43, vec![0x0c])];
+    let rooms = whole.into_iter().map(|record| (43, record)).chain(short);
+    let (mut called, mut stepped) = (Lines::default(), None);
+    for (room, record) in rooms {
+        step(&mut stepped, &record);
+        call(&mut called, room, &record);
     }
 }
 
@@ -284,6 +271,5 @@ fn main() {
     idle();
     board_map();
     speed();
-    calls();
-    steps();
+    session();
 }

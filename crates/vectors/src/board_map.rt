@@ -4,8 +4,8 @@ use airframe::BoardMap;
 use airframe::BoardMapRead;
 use airframe::MotorRead;
 use airframe::OutputRead;
-use esc_feedback::EscOutput;
 
+// The board map both ways, and maps that are refused.
 pub fn run() {
     vector(b"\x01\x02\x03\x04");
     vector(b"\x03\x01\x04\x02");
@@ -33,32 +33,20 @@ fn vector(bytes: &[u8]) {
     print::text(b"\n");
 }
 
-// Lanes 0 to 3 to motors and back, and bytes about the ends of both.
+// Each lane's motor and each motor's lane, and the bytes next to them.
 fn both_ways(map: BoardMap) {
-    let all = EscOutput::ALL;
-    lane(map, all[0]);
-    lane(map, all[1]);
-    lane(map, all[2]);
-    lane(map, all[3]);
     print::text(b"lanes");
-    motor_of_lane(map, 0);
-    motor_of_lane(map, 3);
-    motor_of_lane(map, 4);
-    motor_of_lane(map, 255);
-    print::text(b"; motors");
-    output_of_motor(map, 0);
-    output_of_motor(map, 1);
-    output_of_motor(map, 4);
-    output_of_motor(map, 5);
-}
-
-fn lane(map: BoardMap, output: EscOutput) {
-    let motor = map.motor(output);
-    print::decimal(motor.number() as u64);
-    let back = map.output(motor);
-    let index = back.index();
-    print::field(b" on ", index as u64);
-    print::text(b"; ");
+    let mut lane: u8 = 0;
+    while lane < 5 {
+        motor_of_lane(map, lane);
+        lane += 1;
+    }
+    print::text(b", motors");
+    let mut motor: u8 = 0;
+    while motor < 6 {
+        output_of_motor(map, motor);
+        motor += 1;
+    }
 }
 
 fn motor_of_lane(map: BoardMap, lane: u8) {
@@ -66,18 +54,15 @@ fn motor_of_lane(map: BoardMap, lane: u8) {
     let read = map.motor_of_lane(lane);
     match read {
         MotorRead::Motor(motor) => print::decimal(motor.number() as u64),
-        MotorRead::OutOfRange => print::refused(6),
+        MotorRead::OutOfRange => print::text(b"-"),
     }
 }
 
-fn output_of_motor(map: BoardMap, byte: u8) {
+fn output_of_motor(map: BoardMap, motor: u8) {
     print::text(b" ");
-    let read = map.output_of_motor(byte);
+    let read = map.output_of_motor(motor);
     match read {
-        OutputRead::Output(output) => {
-            let index = output.index();
-            print::decimal(index as u64);
-        }
-        OutputRead::OutOfRange => print::refused(6),
+        OutputRead::Output(output) => print::decimal(output.index() as u64),
+        OutputRead::OutOfRange => print::text(b"-"),
     }
 }

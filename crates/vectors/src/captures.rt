@@ -4,6 +4,7 @@ use crate::print;
 use blheli_telemetry::Found;
 use blheli_telemetry::find_frame;
 
+// Captures that are searched for a frame.
 pub fn run() {
     vector(b"nothing", b"");
     vector(b"nine bytes", b"\x19\x06\x90\x04\xd2\x02\x37\x04\xd2");
@@ -32,7 +33,7 @@ fn vector(name: &[u8], capture: &[u8]) {
     print::text(b": ");
     let found = find_frame(capture);
     match found {
-        Found::At(start) => print::field(b"at ", start as u64),
+        Found::At(start) => print::decimal(start as u64),
         Found::Nowhere => print::text(b"none"),
     }
     print::text(b"\n");

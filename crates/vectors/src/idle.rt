@@ -1,4 +1,5 @@
-// The idle check's counts after each sample. What is expected is what esc_manager.rs gave.
+// The idle check's verdict and counts after each sample: its time, its eRPM/100 and the four counts. What is
+// expected is what esc_manager.rs gave.
 use crate::print;
 use blheli_telemetry::EscTelemetry;
 use esc_feedback::EscOutput;
@@ -9,6 +10,7 @@ use esc_idle::EscIdleQualification;
 use esc_idle::EscIdleQualificationConfig;
 use esc_idle::EscIdleQualificationStatus;
 
+// The idle check: which settings are valid, and what it says to samples.
 pub fn run() {
     let config = EscIdleQualificationConfig {
         min_erpm_div100: 30,
@@ -52,14 +54,31 @@ fn observe(
     erpm_div100: u16,
     at_ms: u64,
 ) -> EscIdleQualification {
-    print::field(b"idle at ", at_ms);
-    print::field(b", eRPM/100 ", erpm_div100 as u64);
     let judged = idle.observe(update(lane, erpm_div100, at_ms), at_ms);
-    let after = judged.idle;
-    counts(after);
     let status = judged.status;
-    verdict(status);
+    match status {
+        EscIdleQualificationStatus::Pending => print::text(b"idle pending"),
+        EscIdleQualificationStatus::Qualified => print::text(b"idle qualified"),
+        EscIdleQualificationStatus::Failed(_) => print::text(b"idle failed"),
+    }
+    let after = judged.idle;
+    let counts = after.consecutive_samples();
+    print::line(
+        b"",
+        &[
+            at_ms,
+            erpm_div100 as u64,
+            wide(counts[0]),
+            wide(counts[1]),
+            wide(counts[2]),
+            wide(counts[3]),
+        ],
+    );
     after
+}
+
+fn wide(count: u8) -> u64 {
+    count as u64
 }
 
 fn update(lane: Lane, erpm_div100: u16, at_ms: u64) -> EscTelemetryUpdate {
@@ -79,25 +98,5 @@ fn update(lane: Lane, erpm_div100: u16, at_ms: u64) -> EscTelemetryUpdate {
     EscTelemetryUpdate {
         output,
         observation,
-    }
-}
-
-fn counts(idle: EscIdleQualification) {
-    let counts = idle.consecutive_samples();
-    print::text(b": ");
-    print::small(counts[0]);
-    print::text(b" ");
-    print::small(counts[1]);
-    print::text(b" ");
-    print::small(counts[2]);
-    print::text(b" ");
-    print::small(counts[3]);
-}
-
-fn verdict(status: EscIdleQualificationStatus) {
-    match status {
-        EscIdleQualificationStatus::Pending => print::text(b", pending\n"),
-        EscIdleQualificationStatus::Qualified => print::text(b", qualified\n"),
-        EscIdleQualificationStatus::Failed(_) => print::text(b", failed\n"),
     }
 }

@@ -13,6 +13,7 @@ pub fn push(mut parser: StreamParser, byte: u8) -> Pushed
     Pushed { parser, parsed }
 }
 
+// As `StreamParser::reset`, on a parser in a local.
 pub fn reset(mut parser: StreamParser) -> StreamParser
     ensures { λ r. ⌜ r ≡ resetOf parser ⌝ }
 {

@@ -1,23 +1,20 @@
-// The lanes in their fixed order. What is expected is esc_manager.rs's `ALL` and `index`; the lane after
-// each is document 01's turn.
+// The lanes in their fixed order: each one's index, and the index of the lane after it. What is expected is
+// esc_manager.rs's `ALL` and `index`, and document 01's turn.
 use crate::print;
 use esc_feedback::EscOutput;
 
+// The lanes in the order of `EscOutput::ALL`.
 pub fn run() {
     let all = EscOutput::ALL;
-    lane(b"first", all[0]);
-    lane(b"second", all[1]);
-    lane(b"third", all[2]);
-    lane(b"fourth", all[3]);
+    lane(all[0]);
+    lane(all[1]);
+    lane(all[2]);
+    lane(all[3]);
 }
 
-fn lane(place: &[u8], output: EscOutput) {
-    print::text(b"lane ");
-    print::text(place);
+fn lane(output: EscOutput) {
     let index = output.index();
-    print::field(b": index ", index as u64);
     let next = output.next();
     let turn = next.index();
-    print::field(b", next ", turn as u64);
-    print::text(b"\n");
+    print::line(b"lane", &[index as u64, turn as u64]);
 }

@@ -10,6 +10,7 @@ mod idle;
 mod in_place;
 mod lanes;
 mod print;
+mod session;
 mod settings;
 mod speed;
 mod steps;
@@ -25,6 +26,5 @@ fn main() {
     idle::run();
     board_map::run();
     speed::run();
-    calls::run();
-    steps::run();
+    session::run();
 }

@@ -13,11 +13,6 @@ pub fn decimal(n: u64) {
     io::print_decimal(STDOUT_FILENO, n);
 }
 
-// A number of eight bits.
-pub fn small(n: u8) {
-    decimal(n as u64);
-}
-
 // A byte as two digits.
 pub fn byte(b: u8) {
     io::print_hex(STDOUT_FILENO, b as u64, 2);
@@ -39,21 +34,33 @@ pub fn front(b: &[u8], n: usize) {
     }
 }
 
-// A word, and a number behind it.
-pub fn field(words: &[u8], n: u64) {
-    text(words);
-    decimal(n);
+// A line of numbers behind their name.
+pub fn line(name: &[u8], numbers: &[u64]) {
+    text(name);
+    let mut i: usize = 0;
+    while i < numbers.len() {
+        text(b" ");
+        decimal(numbers[i]);
+        i += 1;
+    }
+    text(b"\n");
 }
 
-pub fn refused(number: u64) {
-    field(b"refused ", number);
+// A refusal's number.
+pub fn refused(number: u8) {
+    text(b"refused ");
+    decimal(number as u64);
 }
 
 // The five fields, in the frame's order.
 pub fn telemetry(t: EscTelemetry) {
     decimal(t.temperature_c as u64);
-    field(b" ", t.voltage_cv as u64);
-    field(b" ", t.current_ca as u64);
-    field(b" ", t.consumption_mah as u64);
-    field(b" ", t.erpm_div100 as u64);
+    text(b" ");
+    decimal(t.voltage_cv as u64);
+    text(b" ");
+    decimal(t.current_ca as u64);
+    text(b" ");
+    decimal(t.consumption_mah as u64);
+    text(b" ");
+    decimal(t.erpm_div100 as u64);
 }

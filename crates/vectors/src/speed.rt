@@ -3,6 +3,7 @@ use crate::print;
 use airframe::MotorSpeed;
 use airframe::motor_speed;
 
+// Speeds, and magnet counts that are refused.
 pub fn run() {
     vector(70, 14);
     vector(70, 13);
@@ -17,13 +18,15 @@ pub fn run() {
 }
 
 fn vector(erpm_div100: u16, magnets: u8) {
-    print::field(b"speed ", erpm_div100 as u64);
-    print::field(b" by ", magnets as u64);
-    print::text(b": ");
     let speed = motor_speed(erpm_div100, magnets);
     match speed {
-        MotorSpeed::Rpm(rpm) => print::decimal(rpm as u64),
-        MotorSpeed::Magnets => print::refused(11),
+        MotorSpeed::Rpm(rpm) => print::line(
+            b"speed",
+            &[erpm_div100 as u64, magnets as u64, rpm as u64],
+        ),
+        MotorSpeed::Magnets => print::line(
+            b"speed refused 11",
+            &[erpm_div100 as u64, magnets as u64],
+        ),
     }
-    print::text(b"\n");
 }

@@ -1,5 +1,6 @@
 // The parser on streams with noise before, between and after frames, pushed in place. What is expected is
-// what lib.rs gave on the same bytes: each sample with the count of bytes pushed, then the three counts.
+// what lib.rs gave on the same bytes: each sample with the count of bytes pushed, then the counts
+// of frames, of check bytes that failed and of bytes discarded.
 use crate::in_place;
 use crate::print;
 use blheli_telemetry::Parsed;
@@ -82,7 +83,8 @@ fn show(name: &[u8], pushed: usize, parsed: Parsed) {
         return;
     };
     heading(name);
-    print::field(b"at ", pushed as u64);
+    print::text(b"at ");
+    print::decimal(pushed as u64);
     print::text(b": ");
     print::telemetry(t);
     print::text(b"\n");
@@ -91,10 +93,14 @@ fn show(name: &[u8], pushed: usize, parsed: Parsed) {
 fn counts(name: &[u8], parser: StreamParser) {
     let stats = parser.stats();
     heading(name);
-    print::field(b"frames ", stats.valid_frames as u64);
-    print::field(b" failures ", stats.crc_failures as u64);
-    print::field(b" discarded ", stats.discarded_bytes as u64);
-    print::text(b"\n");
+    print::line(
+        b"counts",
+        &[
+            stats.valid_frames as u64,
+            stats.crc_failures as u64,
+            stats.discarded_bytes as u64,
+        ],
+    );
 }
 
 fn heading(name: &[u8]) {
