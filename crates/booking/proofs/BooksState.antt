@@ -18,12 +18,12 @@ use Rattle.esc_feedback.specs.declared.samples.StoredObservation.{StoredObserva
 use Rattle.esc_feedback.specs.declared.samples.StoredObservation.the-variants as held
 use Rattle.esc_feedback.specs.declared.samples.Slot.{Slot}
 use Rattle.esc_feedback.specs.declared.samples.EscSamples.{EscSamples}
-use Rattle.esc_unit.specs.Figures.{noFigure, withSample, figureAt, figuresWith}
-use Rattle.esc_unit.specs.Books.{noBooks, checkedBy, samplesDropped, bookedIn, idleStatus, sampleOf, storedAt}
-use Rattle.esc_unit.specs.declared.figures.Figures.{Figures}
+use Rattle.esc_books.specs.Figures.{noFigure, withSample, figureAt, figuresWith}
+use Rattle.esc_books.specs.Books.{noBooks, checkedBy, samplesDropped, bookedIn, idleStatus, sampleOf, storedAt}
+use Rattle.esc_books.specs.declared.figures.Figures.{Figures}
 use Rattle.esc_records.specs.declared.answer.StoredAnswer.the-variants as storedAnswer
-use Rattle.esc_unit.specs.declared.books.Books.{Books}
-use Rattle.esc_unit.specs.declared.books.Booked.{Booked}
+use Rattle.esc_books.specs.declared.books.Books.{Books}
+use Rattle.esc_books.specs.declared.books.Booked.{Booked}
 use Rattle.booking.specs.History.{Check, Seen, Past}
 use Rattle.booking.specs.IdleRule.{judged}
 use Rattle.booking.specs.Samples.{stored, deliveredOn, hottest, lowest, figureOf}

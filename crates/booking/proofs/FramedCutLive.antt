@@ -20,8 +20,8 @@ use Rattle.esc_feedback.specs.Ack.{ackOn, onAck}
 use Rattle.esc_feedback.specs.Timeout.{polledOn, pollTimeout}
 use Rattle.esc_feedback.specs.Wire.{framedOn, receivedOn, pushWire}
 use Rattle.esc_feedback.specs.Recovery.{tryRecover}
-use Rattle.esc_unit.specs.Figures.{withSample}
-use Rattle.esc_unit.specs.Books.{bookedIn}
+use Rattle.esc_books.specs.Figures.{withSample}
+use Rattle.esc_books.specs.Books.{bookedIn}
 use Rattle.esc_records.specs.Record.{recordOf, readRecord}
 use Rattle.esc_records.specs.Answer.{requestBytes, sampleBytes, deliveredBytes, failureBytes, idleBytes, nextBytes, ackBytes, wireBytes, timeoutBytes, reportBytes, bodyBytes, answerBytes}
 use Rattle.esc_unit.specs.Unit.{stepOf, enter, callOf}

@@ -14,7 +14,7 @@ use Rattle.esc_feedback.specs.declared.request.EscTelemetryUpdate.{EscTelemetry
 use Rattle.esc_feedback.specs.declared.answer.EscManagerTimeout.{EscManagerTimeout}
 use Rattle.esc_feedback.specs.declared.answer.EscManagerTimeout.the-variants as timeout
 use Rattle.esc_feedback.specs.declared.manager.EscManager.{EscManager}
-use Rattle.esc_unit.specs.Books.{noBooks, bookedIn, idleStatus}
+use Rattle.esc_books.specs.Books.{noBooks, bookedIn, idleStatus}
 use Rattle.esc_unit.specs.Unit.{unitOf, stepped, ackedOn, wireStepped, recoveredOn, reportOf, stepOf, opens}
 use Rattle.esc_records.specs.declared.record.Record.{Record}
 use Rattle.esc_records.specs.declared.record.Record.the-variants as kind
@@ -23,9 +23,9 @@ use Rattle.esc_records.specs.declared.answer.AckAnswer.the-variants as ack
 use Rattle.esc_records.specs.declared.answer.WireAnswer.the-variants as wireAnswer
 use Rattle.esc_records.specs.declared.answer.Answer.{Answer}
 use Rattle.esc_records.specs.declared.answer.Answer.the-variants as answer
-use Rattle.esc_unit.specs.declared.books.Books.{Books}
+use Rattle.esc_books.specs.declared.books.Books.{Books}
 use Rattle.esc_unit.specs.declared.unit.Unit.{Unit}
-use Rattle.esc_unit.specs.declared.unit.Stepped.{Stepped}
+use Rattle.esc_unit.specs.declared.kinds.Stepped.{Stepped}
 use Rattle.base.specs.Maybe.{is, orElse, onlyIf}
 use Rattle.booking.specs.History.{Opening, Timed, Wire, Idle, Seen, seen, Past}
 use Rattle.booking.specs.Wire.{Frame}

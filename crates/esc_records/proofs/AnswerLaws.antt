@@ -13,7 +13,7 @@ use Rattle.esc_feedback.specs.declared.answer.BackAfterRetries.the-variants as 
 use Rattle.esc_idle.specs.declared.idle_verdict.EscIdleQualificationFailure.{EscIdleQualificationFailure}
 use Rattle.esc_idle.specs.declared.idle_verdict.EscIdleQualificationFailure.the-variants as failure
 use Rattle.esc_idle.specs.declared.idle_verdict.EscIdleQualificationStatus.the-variants as idle
-use Rattle.esc_records.specs.Answer.{requestBytes, sampleBytes, failureBytes, idleBytes, deliveredBytes, nextBytes, ackBytes, timeoutBytes, wireBytes, backBytes, reportBytes, storedBytes, figureBytes, bodyBytes, answerBytes}
+use Rattle.esc_records.specs.Answer.{requestBytes, sampleBytes, failureBytes, idleBytes, deliveredBytes, nextBytes, ackBytes, timeoutBytes, wireBytes, backBytes, reportBytes, storedBytes, figureBytes, bodyBytes, answerBytes, longestAnswer}
 use Rattle.esc_records.specs.declared.answer.Figure.{Figure}
 use Rattle.esc_records.specs.declared.answer.IdleAnswer.{IdleAnswer}
 use Rattle.esc_records.specs.declared.answer.IdleAnswer.the-variants as idleAnswer
@@ -58,7 +58,7 @@ pub delivered-length : (d : Delivered) → length (deliveredBytes d) ≡ 23 + le
 unfolding deliveredBytes
 delivered-length d = omega (arith, length-append (sampleBytes (d .update)) (idleBytes (d .status)), sample-length (d .update))
 
-delivered-at-most : (d : Delivered) → length (deliveredBytes d) ≤ 28
+pub delivered-at-most : (d : Delivered) → length (deliveredBytes d) ≤ 28
 delivered-at-most d = omega (arith, delivered-length d, idle-at-most (d .status))
 
 pub body-at-most : (a : Answer) → length (bodyBytes a) ≤ 42
@@ -88,5 +88,5 @@ pub answer-length : (a : Answer) → length (answerBytes a) ≡ 1 + length (body
 unfolding answerBytes
 answer-length a = omega arith
 
-pub answer-at-most : (a : Answer) → length (answerBytes a) ≤ 43
+pub answer-at-most : (a : Answer) → length (answerBytes a) ≤ longestAnswer
 answer-at-most a = omega (arith, answer-length a, body-at-most a)

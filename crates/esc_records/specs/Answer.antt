@@ -136,6 +136,10 @@ bodyBytes (answer.Figures f) = figureBytes f
 unfoldable pub answerBytes : Answer → List ℕ
 answerBytes a = 0x00 ∷ bodyBytes a
 
+-- as much as any answer takes
+abbrev pub longestAnswer : ℕ
+longestAnswer = 43
+
 -- what is printed of a reply
 unfoldable pub replyBytes : Reply Answer → List ℕ
 replyBytes (accepted a) = answerBytes a

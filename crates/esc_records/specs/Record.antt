@@ -99,10 +99,7 @@ readRecord s =
     (refused 5))
     (refused 4)
 
--- document 01's number, and the record, for each answer of `read_record`
+-- what `read_record` answers
 abbrev pub recordRead : RecordRead → Reply Record
 recordRead (read.Record r) = accepted r
-recordRead read.Kind = refused 4
-recordRead read.Length = refused 5
-recordRead read.Lane = refused 6
-recordRead read.Flag = refused 7
+recordRead (read.Refused n) = refused n

@@ -78,31 +78,29 @@ pub enum Record {
 
 pub enum RecordRead {
     Record(Record),
-    Kind,
-    Length,
-    Lane,
-    Flag,
+    // The number of the refusal.
+    Refused(u8),
 }
 
-// The record that the bytes are, or why they are none: 4 to 7, in this order.
+// The record that the bytes are, or why they are none: 4 kind, 5 length, 6 lane, 7 flag, in this order.
 pub fn read_record(bytes: &[u8]) -> RecordRead
     ensures { λ r. ⌜ recordRead r ≡ readRecord (now (bytes .entry)) ⌝ }
 {
     if bytes.len() == 0 {
-        return RecordRead::Kind;
+        return RecordRead::Refused(4);
     }
     let fields = read_fields(bytes);
     if LAST_KIND < fields.kind {
-        return RecordRead::Kind;
+        return RecordRead::Refused(4);
     }
     if bytes.len() != fields.end {
-        return RecordRead::Length;
+        return RecordRead::Refused(5);
     }
     if !lane_fits(fields) {
-        return RecordRead::Lane;
+        return RecordRead::Refused(6);
     }
     if !flag_fits(fields) {
-        return RecordRead::Flag;
+        return RecordRead::Refused(7);
     }
     RecordRead::Record(record_of(fields))
 }

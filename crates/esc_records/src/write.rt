@@ -1,6 +1,6 @@
 // An answer's bytes: 00, and behind it what document 01 gives for its kind.
 ghost use mathlib.Core.Path.{_≡_};
-ghost use lib.ListN.{length, take};
+ghost use lib.ListN.{length};
 ghost use Rattle.base.specs.Handed.{handed, handedReply, handedOutput};
 ghost use Rattle.esc_records.specs.Answer.{nextBytes, ackBytes, timeoutBytes, wireBytes, backBytes, storedBytes, bodyBytes, answerBytes};
 ghost use Rattle.base.specs.Put.{Room, Put};
@@ -17,30 +17,12 @@ use crate::put_parts::put_idle;
 use crate::put_parts::put_marked_request;
 use crate::put_parts::put_marked_sample;
 use crate::put_parts::put_report;
+use crate::text::answer_text;
 use base::Handed;
 use base::hand;
 use esc_feedback::BackAfterRetries;
 use esc_feedback::EscManagerTimeout;
 use esc_feedback::NextRequest;
-
-// As much as any answer takes.
-pub const LONGEST_ANSWER: usize = 43;
-
-// An answer's bytes in front, and how many they are.
-pub struct AnswerText {
-    pub len: usize,
-    pub bytes: [u8; LONGEST_ANSWER],
-}
-
-// The bytes of an answer, for a caller that has room for any.
-pub fn answer_text(answer: Answer) -> AnswerText
-    ensures { λ r. ⌜ (r .len ≡ length (answerBytes answer)) × (take (r .len) (r .bytes) ≡ answerBytes answer) ⌝ }
-{
-    let mut bytes = [0u8; LONGEST_ANSWER];
-    let body = put_byte(&mut bytes, 0, 0x00);
-    let len = put_body(&mut bytes, body, answer);
-    AnswerText { len, bytes }
-}
 
 // Writes the answer at the start of out, and leaves the rest of it as it is.
 pub fn write_answer(answer: Answer, out: &mut [u8]) -> Handed
@@ -52,7 +34,7 @@ pub fn write_answer(answer: Answer, out: &mut [u8]) -> Handed
     hand(&bytes, text.len, out)
 }
 
-fn put_body(out: &mut [u8], at: usize, answer: Answer) -> usize
+pub(crate) fn put_body(out: &mut [u8], at: usize, answer: Answer) -> usize
     requires { ⌜ Room at (bodyBytes answer) (now out) ⌝ }
     ensures { λ r. ⌜ Put at (bodyBytes answer) (now (out .entry)) (now (out .exit)) r ⌝ }
 {
@@ -71,7 +53,7 @@ fn put_body(out: &mut [u8], at: usize, answer: Answer) -> usize
     }
 }
 
-fn put_next(out: &mut [u8], at: usize, next: NextRequest) -> usize
+pub(crate) fn put_next(out: &mut [u8], at: usize, next: NextRequest) -> usize
     requires { ⌜ Room at (nextBytes next) (now out) ⌝ }
     ensures { λ r. ⌜ Put at (nextBytes next) (now (out .entry)) (now (out .exit)) r ⌝ }
 {
@@ -92,7 +74,7 @@ fn put_ack(out: &mut [u8], at: usize, ack: AckAnswer) -> usize
     }
 }
 
-fn put_timeout(out: &mut [u8], at: usize, timeout: EscManagerTimeout) -> usize
+pub(crate) fn put_timeout(out: &mut [u8], at: usize, timeout: EscManagerTimeout) -> usize
     requires { ⌜ Room at (timeoutBytes timeout) (now out) ⌝ }
     ensures { λ r. ⌜ Put at (timeoutBytes timeout) (now (out .entry)) (now (out .exit)) r ⌝ }
 {

@@ -15,7 +15,7 @@ use Rattle.base.specs.Handed.{handedReply, handedOutput}
 use Rattle.esc_unit.specs.Replies.{callReply}
 use Rattle.esc_records.specs.declared.answer.Answer.{Answer}
 use Rattle.esc_unit.specs.declared.unit.Unit.{Unit}
-use Rattle.esc_unit.specs.declared.unit.Stepped.{Stepped}
+use Rattle.esc_unit.specs.declared.kinds.Stepped.{Stepped}
 use Rattle.esc_unit.specs.declared.unit.call.CallReply.the-variants as call
 use Rattle.esc_unit.specs.declared.unit.call.Called.{Called}
 

@@ -1,7 +1,4 @@
--- Read in this order: laws on the figures and the books; the manager's part and the books' part make the step; each way of a call, and what
--- its code hands back.
-pub mod FigureLaws
-pub mod BooksLaws
+-- Read in this order: a law for each kind whose answer decides what becomes of the books; each way of a call, and what its code hands back.
 pub mod StepLaws
 pub mod UnitLaws
 pub mod CallLaws

@@ -14,7 +14,7 @@ use Rattle.esc_records.specs.declared.record.Record.{Record}
 use Rattle.esc_records.specs.declared.answer.Answer.{Answer}
 use Rattle.esc_unit.specs.Admission.{admittedOn, admittedOf, onAdmitted}
 use Rattle.esc_unit.specs.declared.unit.Unit.{Unit}
-use Rattle.esc_unit.specs.declared.unit.Stepped.{Stepped}
+use Rattle.esc_unit.specs.declared.kinds.Stepped.{Stepped}
 
 -- one of two tests is enough
 either : (a b c : Bool) (x y : Replied) → a || b ≡ c → pick a x (pick b x y) ≡ pick c x y

@@ -8,9 +8,7 @@ use Rattle.esc_records.specs.Record.{readRecord}
 use Rattle.esc_unit.specs.Unit.{Replied, stepOf, opens, refusing, accepting, ifRoom}
 use Rattle.esc_records.specs.declared.record.Record.{Record}
 use Rattle.esc_unit.specs.declared.unit.Unit.{Unit}
-use Rattle.esc_unit.specs.declared.unit.Stepped.{Stepped}
-use Rattle.esc_unit.specs.declared.unit.admission.Admitted.{Admitted}
-use Rattle.esc_unit.specs.declared.unit.admission.Admitted.the-variants as taken
+use Rattle.esc_unit.specs.declared.kinds.Stepped.{Stepped}
 
 -- 4 to 7 by the bytes, 8 by whether the unit was opened
 abbrev pub admittedOn : Bool → Reply Record → Reply Record
@@ -27,7 +25,3 @@ roomed u room s = ifRoom u room (accepting s) (accepted (s .answer))
 abbrev pub onAdmitted : Unit → ℕ → Reply Record → Replied
 onAdmitted u room (refused n) = refusing u n
 onAdmitted u room (accepted r) = roomed u room (stepOf (u .manager) (u .books) r)
-
-abbrev pub admitted : Admitted → Reply Record
-admitted (taken.Record r) = accepted r
-admitted (taken.Refused n) = refused n

@@ -1,18 +1,9 @@
 // The ESC telemetry unit: records in, answers out.
-mod books;
-mod entry;
-mod figures;
-mod managed;
+mod kinds;
 mod unit;
 
-pub use books::Books;
-pub use entry::Entered;
-pub use entry::Entry;
-pub use figures::Figures;
-pub use managed::Left;
-pub use managed::Managed;
-pub use managed::manage;
-pub use unit::Admitted;
+pub use kinds::Stepped;
+pub use kinds::step;
 pub use unit::CallReply;
 pub use unit::Called;
 pub use unit::StepReply;

@@ -2,17 +2,15 @@
 mod admission;
 mod call;
 
-pub use admission::Admitted;
 pub use admission::admit;
 pub use call::CallReply;
 pub use call::Called;
 ghost use mathlib.Core.Path.{_≡_};
 ghost use mathlib.Core.Bool.{_||_};
-ghost use Rattle.esc_unit.specs.Unit.{neverOpened, stepOf, opens, enter};
+ghost use Rattle.esc_unit.specs.Unit.{neverOpened, opens, enter};
 ghost use Rattle.esc_unit.specs.Replies.{stepReplied};
-use crate::books::Books;
-use crate::managed::Left;
-use crate::managed::manage;
+use crate::kinds::step;
+use esc_books::Books;
 use esc_feedback::EscManager;
 use esc_feedback::EscManagerConfig;
 use esc_records::Answer;
@@ -23,12 +21,6 @@ pub struct Unit {
     pub opened: bool,
     pub manager: EscManager,
     pub books: Books,
-}
-
-// An opened unit after a record, and its answer.
-pub struct Stepped {
-    pub unit: Unit,
-    pub answer: Answer,
 }
 
 pub enum StepReply {
@@ -74,36 +66,12 @@ impl Unit {
                 reply: StepReply::Unopened,
             };
         }
-        let stepped = self.stepped(record);
+        let stepped = step(self.manager, self.books, record);
         let unit = stepped.unit;
         let answer = stepped.answer;
         UnitStepped {
             unit,
             reply: StepReply::Answer(answer),
-        }
-    }
-
-    // What each kind of record does, 00 to 0e: the manager has it first, then the books what is left.
-    fn stepped(self, record: Record) -> Stepped
-        ensures { λ r. ⌜ r ≡ stepOf (self .manager) (self .books) «record» ⌝ }
-    {
-        let manager = self.manager;
-        let done = manage(manager, record);
-        let after = done.manager;
-        let left = done.left;
-        let mut unit = self;
-        unit.opened = true;
-        unit.manager = after;
-        match left {
-            Left::Answer(answer) => Stepped { unit, answer },
-            Left::Entry(entry) => {
-                let books = unit.books;
-                let entered = books.entered(entry);
-                let kept = entered.books;
-                let answer = entered.answer;
-                unit.books = kept;
-                Stepped { unit, answer }
-            }
         }
     }
 }

@@ -14,24 +14,24 @@ use Rattle.esc_feedback.specs.declared.manager.EscManager.{EscManager}
 use Rattle.esc_feedback.specs.declared.manager.wire.Received.{Received}
 use Rattle.esc_feedback.proofs.WireLaws.{pushed-collected}
 use Rattle.esc_unit.specs.Admission.{onAdmitted}
-use Rattle.esc_records.specs.Answer.{wireBytes, bodyBytes, answerBytes, replyBytes}
+use Rattle.esc_records.specs.Answer.{wireBytes, bodyBytes, answerBytes, replyBytes, longestAnswer}
 use Rattle.esc_unit.specs.Entry.{enteredIn}
 use Rattle.esc_unit.specs.Managed.{managedBy}
 use Rattle.esc_unit.specs.Unit.{Replied, unitOf, stepped, wireStepped, stepOf, refusing, accepting}
 use Rattle.esc_records.specs.declared.answer.Answer.{Answer}
 use Rattle.esc_records.specs.declared.answer.Answer.the-variants as answer
 use Rattle.esc_records.specs.declared.answer.WireAnswer.the-variants as wire
-use Rattle.esc_unit.specs.declared.books.Books.{Books}
+use Rattle.esc_books.specs.declared.books.Books.{Books}
 use Rattle.esc_unit.specs.declared.entry.Entry.{Entry}
 use Rattle.esc_unit.specs.declared.managed.Left.the-variants as left
 use Rattle.esc_records.specs.declared.record.Record.{Record}
 use Rattle.esc_records.specs.declared.record.Record.the-variants as kind
-use Rattle.esc_unit.specs.declared.unit.Stepped.{Stepped}
+use Rattle.esc_unit.specs.declared.kinds.Stepped.{Stepped}
 use Rattle.esc_unit.specs.declared.unit.Unit.{Unit}
 use Rattle.esc_records.proofs.AnswerLaws.{answer-at-most}
 use Rattle.esc_unit.proofs.StepLaws.{steps-answered, steps-entered}
 use Rattle.esc_unit.proofs.UnitLaws.{call-admission}
-use Rattle.unit_text.specs.Session.{answerOn, longestAnswer}
+use Rattle.unit_text.specs.Session.{answerOn}
 use Rattle.unit_text.specs.Answering.{admittedBy, Answers}
 
 answer-admitted : (u : Unit) (l : Reply (List ℕ)) → answerOn u l ≡ onAdmitted u longestAnswer (admittedBy (u .opened) l)

@@ -6,7 +6,7 @@ use lib.ListN.{length}
 use Rattle.base.specs.Choice.{pick}
 use Rattle.base.specs.Reply.{Reply, accepted, refused}
 use Rattle.esc_unit.specs.Unit.{Replied, refusing, callOf, neverOpened}
-use Rattle.esc_records.specs.Answer.{replyBytes}
+use Rattle.esc_records.specs.Answer.{replyBytes, longestAnswer}
 use Rattle.esc_unit.specs.declared.unit.Unit.{Unit}
 use Rattle.unit_text.specs.Line.{lineEnd, readLine, printedLine}
 
@@ -18,10 +18,6 @@ linesFrom line (c ∷ text) = pick (eqb c lineEnd) (line ∷ linesFrom [] text) 
 
 abbrev pub linesOf : List ℕ → List (List ℕ)
 linesOf text = linesFrom [] text
-
--- as much as any answer takes
-abbrev pub longestAnswer : ℕ
-longestAnswer = 43
 
 -- a line that stands for no record is refused, and leaves the unit as found
 abbrev pub answerOn : Unit → Reply (List ℕ) → Replied

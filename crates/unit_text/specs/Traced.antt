@@ -2,12 +2,12 @@
 use mathlib.Core.List.{List, [], _∷_, _++_}
 use Prim.Native.Nat.{ℕ}
 use Rattle.base.specs.Reply.{Reply, accepted, refused}
-use Rattle.esc_records.specs.Answer.{replyBytes}
+use Rattle.esc_records.specs.Answer.{replyBytes, longestAnswer}
 use Rattle.esc_records.specs.declared.answer.Answer.{Answer}
 use Rattle.booking.specs.History.{Call, History}
 use Rattle.booking.specs.Rule.{ruleFor}
 use Rattle.unit_text.specs.Line.{readLine, printedLine}
-use Rattle.unit_text.specs.Session.{linesOf, longestAnswer}
+use Rattle.unit_text.specs.Session.{linesOf}
 
 abbrev pub callFor : List ℕ → Call
 callFor bytes = record { bytes = bytes; room = longestAnswer }

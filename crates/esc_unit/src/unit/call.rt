@@ -5,11 +5,12 @@ ghost use Rattle.base.specs.Reply.{accepted};
 ghost use Rattle.esc_unit.specs.Unit.{callOf, outputAfter, lengthOf};
 ghost use Rattle.esc_unit.specs.Admission.{onAdmitted};
 ghost use Rattle.esc_unit.specs.Replies.{callReply};
-use crate::unit::Admitted;
+use crate::kinds::step;
 use crate::unit::Unit;
 use crate::unit::admit;
 use base::Handed;
 use esc_records::Record;
+use esc_records::RecordRead;
 use esc_records::write_answer;
 
 pub enum CallReply {
@@ -33,8 +34,8 @@ impl Unit {
     {
         let taken = admit(self.opened, record);
         match taken {
-            Admitted::Record(known) => self.answered(known, out),
-            Admitted::Refused(number) => self.refused(number),
+            RecordRead::Record(known) => self.answered(known, out),
+            RecordRead::Refused(number) => self.refused(number),
         }
     }
 
@@ -44,7 +45,7 @@ impl Unit {
         ensures { λ r. ⌜ callReply (r .reply) ≡ lengthOf (onAdmitted self (length (now (out .entry))) (accepted «record») .reply) ⌝ }
         ensures { λ _. ⌜ now (out .exit) ≡ outputAfter (onAdmitted self (length (now (out .entry))) (accepted «record») .reply) (now (out .entry)) ⌝ }
     {
-        let stepped = self.stepped(record);
+        let stepped = step(self.manager, self.books, record);
         let answer = stepped.answer;
         let written = write_answer(answer, out);
         let Handed::Written(count) = written else {

@@ -6,8 +6,8 @@ use borrow.Author.Needs.{needs}
 use Rattle.esc_unit.proofs.unit.Unit.answered.Statement.{statement}
 use Rattle.esc_unit.proofs.unit.Unit.answered.Tie as tie
 
-stepped-requires : tie.Need-stepped-requires
-stepped-requires c κs = search needs
+step-requires : tie.Need-step-requires
+step-requires c κs = search needs
 
 write-answer-requires : tie.Need-write-answer-requires
 write-answer-requires c κs = search needs
@@ -27,7 +27,7 @@ same-length c = search needs
 returns : tie.Need-returns
 returns c =
     let w = c .before .before .before .before .before .write-answer in
-    let s = c .before .before .before .before .before .before .before .stepped in
+    let s = c .before .before .before .before .before .before .before .step in
     let a = c .before .before .before .before .before .before .before .before .before .args in
     rw (← s .ensures)
     (meets-space (a .self) _ _ (s .result) (w .ensures .1) _ (c .refused .ensures) (sym (ap handed (c .before .enum-told .given .1)) ∙ w .ensures .0))
@@ -38,7 +38,7 @@ same-length-2 c = search needs
 returns-2 : tie.Need-returns-2
 returns-2 c =
     let w = c .before .before .before .before .before .before .write-answer in
-    let s = c .before .before .before .before .before .before .before .before .stepped in
+    let s = c .before .before .before .before .before .before .before .before .step in
     let a = c .before .before .before .before .before .before .before .before .before .before .args in
     rw (← s .ensures)
     (meets-answer (a .self) _ _ (s .result) (w .ensures .1) _ _ refl (sym (ap handed (c .before .before .written .given .1)) ∙ w .ensures .0))
@@ -47,7 +47,7 @@ pub answered-spec : {M : Type 1} → statement M
 answered-spec =
     tie.close
     (tie.spec
-    stepped-requires
+    step-requires
     write-answer-requires
     enum-known-written
     enum-told

@@ -1,7 +1,7 @@
 -- A record that is taken is answered; a refusal is its number.
 use mathlib.Core.Path.{refl, sym, ap, _∙_}
 use denote.Ref.{now}
-use Rattle.esc_unit.specs.Admission.{admitted}
+use Rattle.esc_records.specs.Record.{recordRead}
 use Rattle.esc_unit.proofs.UnitLaws.{call-refused, call-taken}
 use Rattle.esc_unit.proofs.CallLaws.{meets-refusal}
 use borrow.Author.Needs.{needs}
@@ -30,11 +30,11 @@ returns : tie.Need-returns
 returns c =
     let a = c .before .before .before .before .before .before .before .before .before .before .args in
     let e = c .before .before .before .before .before .before .before .admit .ensures in
-    rw (call-taken (a .self) (now (a .«record»)) _ _ (sym e ∙ ap admitted (c .before .before .before .before .before .taken .given .1)))
+    rw (call-taken (a .self) (now (a .«record»)) _ _ (sym e ∙ ap recordRead (c .before .before .before .before .before .taken .given .1)))
     (c .before .before .answered .ensures)
 
 returns-2 : tie.Need-returns-2
-returns-2 c = meets-refusal _ _ _ _ _ _ (c .refused .ensures) (call-refused _ _ _ _ (sym (c .before .before .before .before .admit .ensures) ∙ ap admitted (c .before .before .taken2 .given .1))) refl
+returns-2 c = meets-refusal _ _ _ _ _ _ (c .refused .ensures) (call-refused _ _ _ _ (sym (c .before .before .before .before .admit .ensures) ∙ ap recordRead (c .before .before .taken2 .given .1))) refl
 
 pub call-spec : {M : Type 1} → statement M
 call-spec =

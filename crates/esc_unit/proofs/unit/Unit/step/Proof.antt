@@ -12,13 +12,13 @@ takes-requires c κs = search needs
 returns : tie.Need-returns
 returns c = sym (enter-refused _ _ (sym (c .before .takes .ensures) ∙ not-true _ (c .if1 .taken)))
 
-stepped-requires : tie.Need-stepped-requires
-stepped-requires c κs = search needs
+step-requires : tie.Need-step-requires
+step-requires c κs = search needs
 
 returns-2 : tie.Need-returns-2
 returns-2 c =
-    rw (c .before .stepped .ensures)
+    rw (c .before .step .ensures)
     (sym (enter-accepted _ _ (sym (c .before .before .before .takes .ensures) ∙ not-false _ (c .before .before .if1 .left))))
 
 pub step-spec : {M : Type 1} → statement M
-step-spec = tie.close (tie.spec takes-requires returns stepped-requires returns-2)
+step-spec = tie.close (tie.spec takes-requires returns step-requires returns-2)

@@ -13,46 +13,26 @@ read-record-requires c κs = search needs
 enum-known-read : tie.Need-enum-known-read
 enum-known-read c = search needs
 
+enum-known-read-2 : tie.Need-enum-known-read-2
+enum-known-read-2 c = search needs
+
 takes-requires : tie.Need-takes-requires
 takes-requires c κs = search needs
 
 returns : tie.Need-returns
 returns c =
-    let d = c .before .before in
-    sym (admitted-read _ _ _ true
-    (sym (d .before .before .before .read-record .ensures) ∙ ap recordRead (d .before .read .given .1))
+    let d = c .before .before .before in
+    sym (admitted-read _ _ _ true (sym (d .before .before .read-record .ensures) ∙ ap recordRead (d .read2 .given .1))
     (sym (c .before .takes .ensures) ∙ c .if1 .taken))
 
-enum-told : tie.Need-enum-told
-enum-told c = search needs
-
-enum-told-2 : tie.Need-enum-told-2
-enum-told-2 c = search needs
-
-enum-told-3 : tie.Need-enum-told-3
-enum-told-3 c = search needs
-
-enum-told-4 : tie.Need-enum-told-4
-enum-told-4 c = search needs
-
 returns-2 : tie.Need-returns-2
-returns-2 c =
-    let d = c .before .before in
-    sym (admitted-read _ _ _ false
-    (sym (d .before .before .before .read-record .ensures) ∙ ap recordRead (d .before .read .given .1))
-    (sym (c .before .takes .ensures) ∙ c .if1 .left))
+returns-2 c = sym (admitted-unread _ _ _ (sym (c .before .before .before .read-record .ensures) ∙ ap recordRead (c .before .read .given .1)))
 
 returns-3 : tie.Need-returns-3
-returns-3 c = sym (admitted-unread _ _ _ (sym (c .before .before .read-record .ensures) ∙ ap recordRead (c .enum-told .given .1)))
-
-returns-4 : tie.Need-returns-4
-returns-4 c = sym (admitted-unread _ _ _ (sym (c .before .before .read-record .ensures) ∙ ap recordRead (c .enum-told2 .given .1)))
-
-returns-5 : tie.Need-returns-5
-returns-5 c = sym (admitted-unread _ _ _ (sym (c .before .before .read-record .ensures) ∙ ap recordRead (c .enum-told3 .given .1)))
-
-returns-6 : tie.Need-returns-6
-returns-6 c = sym (admitted-unread _ _ _ (sym (c .before .before .read-record .ensures) ∙ ap recordRead (c .enum-told4 .given .1)))
+returns-3 c =
+    let d = c .before .before .before in
+    sym (admitted-read _ _ _ false (sym (d .before .before .read-record .ensures) ∙ ap recordRead (d .read2 .given .1))
+    (sym (c .before .takes .ensures) ∙ c .if1 .left))
 
 pub admit-spec : {M : Type 1} → statement M
 admit-spec =
@@ -60,14 +40,8 @@ admit-spec =
     (tie.spec
     read-record-requires
     enum-known-read
+    enum-known-read-2
     takes-requires
     returns
-    enum-told
-    enum-told-2
-    enum-told-3
-    enum-told-4
     returns-2
-    returns-3
-    returns-4
-    returns-5
-    returns-6)
+    returns-3)

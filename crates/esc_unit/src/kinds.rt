@@ -1,0 +1,77 @@
+// What each kind of record does to an opened unit, and its answer.
+mod recovery;
+mod report;
+mod requests;
+mod wire;
+
+ghost use mathlib.Core.Path.{_≡_};
+ghost use Rattle.esc_unit.specs.Unit.{stepped, stepOf};
+use crate::unit::Unit;
+use esc_books::Books;
+use esc_feedback::EscManager;
+use esc_records::Answer;
+use esc_records::Record;
+
+// An opened unit after a record, and its answer.
+pub struct Stepped {
+    pub unit: Unit,
+    pub answer: Answer,
+}
+
+// The step of a record of any kind, 00 to 0e, from the manager and the books that the record before left.
+pub fn step(manager: EscManager, books: Books, record: Record) -> Stepped
+    ensures { λ r. ⌜ r ≡ stepOf manager books «record» ⌝ }
+{
+    match record {
+        Record::Open {
+            config,
+            boot_started_ms,
+        } => {
+            let opened = EscManager::new(config, boot_started_ms);
+            answered(opened, Books::new(), Answer::Done)
+        }
+        Record::NextRequest { now_ms } => requests::next_request(manager, books, now_ms),
+        Record::MarkRequestQueued { request, now_ms } => {
+            requests::mark_request_queued(manager, books, request, now_ms)
+        }
+        Record::ActuatorAck { ack, now_ms } => {
+            requests::on_actuator_ack(manager, books, ack, now_ms)
+        }
+        Record::PollTimeout { now_ms } => requests::poll_timeout(manager, books, now_ms),
+        Record::WireByte {
+            byte,
+            observed_at_ms,
+        } => wire::push_wire_byte(manager, books, byte, observed_at_ms),
+        Record::WireDiscontinuity => {
+            answered(manager.record_wire_discontinuity(), books, Answer::Done)
+        }
+        Record::TryRecover { armed, now_ms } => {
+            recovery::try_recover(manager, books, armed, now_ms)
+        }
+        Record::TakeBackAfterRetries => recovery::take_back_after_retries(manager, books),
+        Record::RefreshWireStats => answered(manager.refresh_wire_stats(), books, Answer::Done),
+        Record::IdleCheck {
+            config,
+            started_at_ms,
+        } => answered(
+            manager,
+            books.with_check(config, started_at_ms),
+            Answer::Done,
+        ),
+        Record::IdleStatus { now_ms } => report::idle_status(manager, books, now_ms),
+        Record::Report => report::report(manager, books),
+        Record::StoredSample { output } => report::stored_sample(manager, books, output),
+        Record::Figures { output } => report::figures(manager, books, output),
+    }
+}
+
+fn answered(manager: EscManager, books: Books, answer: Answer) -> Stepped
+    ensures { λ r. ⌜ r ≡ stepped manager books answer ⌝ }
+{
+    let unit = Unit {
+        opened: true,
+        manager,
+        books,
+    };
+    Stepped { unit, answer }
+}
