@@ -1,6 +1,8 @@
 -- How long answers are: each part by computation, and none longer than the report.
 use mathlib.Core.Path.{_≡_, refl}
-use Prim.Native.Nat.{_+_, _≤_}
+use mathlib.Core.Bool.{Bool, true, false}
+use mathlib.Core.List.{[], _∷_}
+use Prim.Native.Nat.{ℕ, _+_, _≤_}
 use native.Mathlib.Omega.{arith}
 use lib.ListN.{length, length-append}
 use Rattle.base.specs.BigEndian.{bytesOf}
@@ -13,7 +15,7 @@ use Rattle.esc_feedback.specs.declared.answer.BackAfterRetries.the-variants as 
 use Rattle.esc_idle.specs.declared.idle_verdict.EscIdleQualificationFailure.{EscIdleQualificationFailure}
 use Rattle.esc_idle.specs.declared.idle_verdict.EscIdleQualificationFailure.the-variants as failure
 use Rattle.esc_idle.specs.declared.idle_verdict.EscIdleQualificationStatus.the-variants as idle
-use Rattle.esc_records.specs.Answer.{requestBytes, sampleBytes, failureBytes, idleBytes, deliveredBytes, nextBytes, ackBytes, timeoutBytes, wireBytes, backBytes, reportBytes, storedBytes, figureBytes, bodyBytes, answerBytes, longestAnswer}
+use Rattle.esc_records.specs.Answer.{flagByte, requestBytes, sampleBytes, failureBytes, idleBytes, deliveredBytes, nextBytes, ackBytes, timeoutBytes, wireBytes, backBytes, reportBytes, storedBytes, figureBytes, bodyBytes, answerBytes, longestAnswer}
 use Rattle.esc_records.specs.declared.answer.Figure.{Figure}
 use Rattle.esc_records.specs.declared.answer.IdleAnswer.{IdleAnswer}
 use Rattle.esc_records.specs.declared.answer.IdleAnswer.the-variants as idleAnswer
@@ -90,3 +92,35 @@ answer-length a = omega arith
 
 pub answer-at-most : (a : Answer) → length (answerBytes a) ≤ longestAnswer
 answer-at-most a = omega (arith, answer-length a, body-at-most a)
+
+-- the answers that 02, 03 and 05 give in two bytes, and a delivered sample, which 03 and 05 show alike
+pub decided-bytes : (b : Bool) → answerBytes (answer.Decided b) ≡ 0x00 ∷ flagByte b ∷ []
+unfolding answerBytes bodyBytes
+decided-bytes b = refl
+
+pub rejected-bytes : answerBytes (answer.Ack ack.Rejected) ≡ 0x00 ∷ flagByte false ∷ []
+unfolding answerBytes bodyBytes ackBytes
+rejected-bytes = refl
+
+pub accepted-bytes : answerBytes (answer.Ack ack.Accepted) ≡ 0x00 ∷ flagByte true ∷ []
+unfolding answerBytes bodyBytes ackBytes
+accepted-bytes = refl
+
+pub ack-sample-bytes : (d : Delivered) → answerBytes (answer.Ack (ack.Sample d)) ≡ 0x00 ∷ deliveredBytes d
+unfolding answerBytes bodyBytes ackBytes
+ack-sample-bytes d = refl
+
+pub no-wire-bytes : answerBytes (answer.Wire wire.None) ≡ 0x00 ∷ flagByte false ∷ []
+unfolding answerBytes bodyBytes wireBytes
+no-wire-bytes = refl
+
+pub wire-sample-bytes : (d : Delivered) → answerBytes (answer.Wire (wire.Sample d)) ≡ 0x00 ∷ deliveredBytes d
+unfolding answerBytes bodyBytes wireBytes
+wire-sample-bytes d = refl
+
+-- how many bytes a text has, whatever the answer is
+pub answer-fits : (a : Answer) {n : ℕ} → n ≡ length (answerBytes a) → n ≤ longestAnswer
+answer-fits a e = omega (arith, answer-at-most a)
+
+pub delivered-fits : (d : Delivered) {n : ℕ} → n ≡ length (0x00 ∷ deliveredBytes d) → n ≤ longestAnswer
+delivered-fits d e = omega (arith, delivered-at-most d)

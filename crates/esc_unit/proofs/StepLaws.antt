@@ -1,6 +1,6 @@
 -- The step of each kind that a caller meets one by one: 01 to 05, where the manager's answer decides what becomes of the books, and 07.
 use mathlib.Core.Path.{_≡_, refl, ap}
-use mathlib.Core.Bool.{Bool}
+use mathlib.Core.Bool.{Bool, true, false}
 use Prim.Native.Nat.{ℕ}
 use Rattle.esc_feedback.specs.Queueing.{nextRequest, markQueued}
 use Rattle.esc_feedback.specs.Ack.{onAck}
@@ -10,9 +10,12 @@ use Rattle.esc_feedback.specs.Recovery.{tryRecover}
 use Rattle.esc_feedback.specs.declared.request.EscActuatorRequest.{EscActuatorRequest}
 use Rattle.esc_feedback.specs.declared.request.EscActuatorAck.{EscActuatorAck}
 use Rattle.esc_feedback.specs.declared.answer.EscAckOutcome.{EscAckOutcome}
+use Rattle.esc_feedback.specs.declared.answer.EscAckOutcome.the-variants as outcome
 use Rattle.esc_feedback.specs.declared.answer.WireUpdate.{WireUpdate}
+use Rattle.esc_feedback.specs.declared.answer.WireUpdate.the-variants as update
 use Rattle.esc_feedback.specs.declared.manager.EscManager.{EscManager}
 use Rattle.esc_books.specs.declared.books.Books.{Books}
+use Rattle.esc_records.specs.declared.record.Record.{Record}
 use Rattle.esc_records.specs.declared.record.Record.the-variants as kind
 use Rattle.esc_records.specs.declared.answer.Answer.the-variants as answer
 use Rattle.esc_unit.specs.Unit.{stepped, ackedOn, wireStepped, recoveredOn, stepOf}
@@ -45,3 +48,36 @@ module _ (m : EscManager) (b : Books) (now : ℕ) where
       → stepOf m b (kind.TryRecover armed now) ≡ recoveredOn (tryRecover m now armed .manager) b said
   unfolding stepOf
   step-recovery armed said e = ap (recoveredOn (tryRecover m now armed .manager) b) e
+
+-- whatever the kind, the unit is open afterwards
+module _ (m : EscManager) (b : Books) where
+  acked-open : (now : ℕ) (o : EscAckOutcome) → ackedOn m b now o .unit .opened ≡ true
+  acked-open now outcome.Rejected = refl
+  acked-open now outcome.Accepted = refl
+  acked-open now (outcome.Sample u) = refl
+
+  wire-open : (now : ℕ) (w : WireUpdate) → wireStepped m b now w .unit .opened ≡ true
+  wire-open now update.None = refl
+  wire-open now (update.Some u) = refl
+
+  recovered-open : (yes : Bool) → recoveredOn m b yes .unit .opened ≡ true
+  recovered-open true = refl
+  recovered-open false = refl
+
+pub step-opens : (m : EscManager) (b : Books) (r : Record) → stepOf m b r .unit .opened ≡ true
+unfolding stepOf
+step-opens m b (kind.Open c t) = refl
+step-opens m b (kind.NextRequest now) = refl
+step-opens m b (kind.MarkRequestQueued q now) = refl
+step-opens m b (kind.ActuatorAck k now) = acked-open (onAck m k .manager) b now (onAck m k .answer)
+step-opens m b (kind.PollTimeout now) = refl
+step-opens m b (kind.WireByte x now) = wire-open (pushWire m x now .manager) b now (pushWire m x now .answer)
+step-opens m b kind.WireDiscontinuity = refl
+step-opens m b (kind.TryRecover armed now) = recovered-open (tryRecover m now armed .manager) b (tryRecover m now armed .answer)
+step-opens m b kind.TakeBackAfterRetries = refl
+step-opens m b kind.RefreshWireStats = refl
+step-opens m b (kind.IdleCheck c t) = refl
+step-opens m b (kind.IdleStatus now) = refl
+step-opens m b kind.Report = refl
+step-opens m b (kind.StoredSample o) = refl
+step-opens m b (kind.Figures o) = refl

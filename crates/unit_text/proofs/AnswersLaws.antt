@@ -1,6 +1,6 @@
 -- Each way to answer a line: a refusal leaves the unit as found, and every record that is taken has room for its answer.
 use mathlib.Core.Path.{_≡_, refl, sym, ap, _∙_}
-use mathlib.Core.Bool.{Bool, true}
+use mathlib.Core.Bool.{Bool, true, false}
 use mathlib.Core.List.{List, [], _∷_}
 use Prim.Native.Nat.{ℕ}
 use borrow.Author.Tests.{le-leb}
@@ -10,26 +10,31 @@ use Rattle.base.specs.Choice.{pick}
 use Rattle.base.specs.Reply.{Reply, accepted, refused}
 use Rattle.blheli_telemetry.specs.Parser.{collected}
 use Rattle.esc_feedback.specs.Manager.{setParser, heardBy}
+use Rattle.esc_feedback.specs.Queueing.{nextRequest, markQueued}
+use Rattle.esc_feedback.specs.Ack.{onAck}
+use Rattle.esc_feedback.specs.Timeout.{pollTimeout}
+use Rattle.esc_feedback.specs.Wire.{pushWire}
+use Rattle.esc_feedback.specs.declared.request.EscActuatorRequest.{EscActuatorRequest}
+use Rattle.esc_feedback.specs.declared.request.EscActuatorAck.{EscActuatorAck}
+use Rattle.esc_feedback.specs.declared.request.EscTelemetryUpdate.{EscTelemetryUpdate}
+use Rattle.esc_feedback.specs.declared.answer.EscAckOutcome.the-variants as outcome
+use Rattle.esc_feedback.specs.declared.answer.WireUpdate.{WireUpdate}
+use Rattle.esc_feedback.specs.declared.answer.WireUpdate.the-variants as update
 use Rattle.esc_feedback.specs.declared.manager.EscManager.{EscManager}
 use Rattle.esc_feedback.specs.declared.manager.wire.Received.{Received}
 use Rattle.esc_feedback.proofs.WireLaws.{pushed-collected}
-use Rattle.esc_unit.specs.Admission.{onAdmitted}
-use Rattle.esc_records.specs.Answer.{wireBytes, bodyBytes, answerBytes, replyBytes, longestAnswer}
-use Rattle.esc_unit.specs.Entry.{enteredIn}
-use Rattle.esc_unit.specs.Managed.{managedBy}
-use Rattle.esc_unit.specs.Unit.{Replied, unitOf, stepped, wireStepped, stepOf, refusing, accepting}
-use Rattle.esc_records.specs.declared.answer.Answer.{Answer}
-use Rattle.esc_records.specs.declared.answer.Answer.the-variants as answer
-use Rattle.esc_records.specs.declared.answer.WireAnswer.the-variants as wire
+use Rattle.esc_books.specs.Books.{bookedIn}
 use Rattle.esc_books.specs.declared.books.Books.{Books}
-use Rattle.esc_unit.specs.declared.entry.Entry.{Entry}
-use Rattle.esc_unit.specs.declared.managed.Left.the-variants as left
+use Rattle.esc_records.specs.Answer.{flagByte, deliveredBytes, answerBytes, replyBytes, longestAnswer}
+use Rattle.esc_records.specs.declared.answer.Answer.the-variants as answer
 use Rattle.esc_records.specs.declared.record.Record.{Record}
 use Rattle.esc_records.specs.declared.record.Record.the-variants as kind
+use Rattle.esc_records.proofs.AnswerLaws.{answer-at-most, decided-bytes, rejected-bytes, accepted-bytes, ack-sample-bytes, no-wire-bytes, wire-sample-bytes}
+use Rattle.esc_unit.specs.Admission.{onAdmitted}
+use Rattle.esc_unit.specs.Unit.{Replied, unitOf, stepOf, refusing, accepting}
 use Rattle.esc_unit.specs.declared.kinds.Stepped.{Stepped}
 use Rattle.esc_unit.specs.declared.unit.Unit.{Unit}
-use Rattle.esc_records.proofs.AnswerLaws.{answer-at-most}
-use Rattle.esc_unit.proofs.StepLaws.{steps-answered, steps-entered}
+use Rattle.esc_unit.proofs.StepLaws.{step-opens, step-next, step-mark, step-ack, step-poll, step-byte}
 use Rattle.esc_unit.proofs.UnitLaws.{call-admission}
 use Rattle.unit_text.specs.Session.{answerOn}
 use Rattle.unit_text.specs.Answering.{admittedBy, Answers}
@@ -38,11 +43,6 @@ answer-admitted : (u : Unit) (l : Reply (List ℕ)) → answerOn u l ≡ onAdmit
 answer-admitted u (refused n) = refl
 answer-admitted u (accepted s) = call-admission u s longestAnswer
 
-only-collected : (m : EscManager) (b : Books) (x t : ℕ) → ltb (m .parser .len) 9 ≡ true
-    → stepOf m b (kind.WireByte x t) ≡ stepped (setParser (collected (m .parser) x .parser) (heardBy m t)) b (answer.Wire wire.None)
-unfolding stepOf
-only-collected m b x t few = ap (λ (r : Received). wireStepped (r .manager) b t (r .answer)) (pushed-collected m x t few)
-
 module _ (u : Unit) (l : Reply (List ℕ)) where
   pub answers-refused : (n : ℕ) → admittedBy (u .opened) l ≡ refused n → Answers u l u (n ∷ [])
   unfolding replyBytes
@@ -50,30 +50,79 @@ module _ (u : Unit) (l : Reply (List ℕ)) where
       let by : answerOn u l ≡ refusing u n = answer-admitted u l ∙ ap (onAdmitted u longestAnswer) e in
       record { unit = sym (ap (λ (k : Replied). k .unit) by); bytes = sym (ap (λ (k : Replied). replyBytes (k .reply)) by) }
 
-  module _ (r : Record) (e : admittedBy (u .opened) l ≡ accepted r) where
-    answers-stepped : (s : Stepped) → stepOf (u .manager) (u .books) r ≡ s → Answers u l (s .unit) (answerBytes (s .answer))
-    unfolding replyBytes
-    answers-stepped s q =
-        let by : answerOn u l ≡ accepting s =
-        answer-admitted u l
-        ∙ ap (onAdmitted u longestAnswer) e
-        ∙ ap (λ (x : Stepped). pick (leb (length (answerBytes (x .answer))) longestAnswer) (accepting x) (refusing u 9)) q
-        ∙ ap (λ (b : Bool). pick b (accepting s) (refusing u 9)) (le-leb (length (answerBytes (s .answer))) longestAnswer (answer-at-most (s .answer))) in
-        record { unit = sym (ap (λ (k : Replied). k .unit) by); bytes = sym (ap (λ (k : Replied). replyBytes (k .reply)) by) }
+  -- a record of any kind
+  answers-stepped : (r : Record) (s : Stepped) → admittedBy (u .opened) l ≡ accepted r → stepOf (u .manager) (u .books) r ≡ s
+      → Answers u l (s .unit) (answerBytes (s .answer))
+  unfolding replyBytes
+  answers-stepped r s e q =
+      let by : answerOn u l ≡ accepting s =
+      answer-admitted u l
+      ∙ ap (onAdmitted u longestAnswer) e
+      ∙ ap (λ (x : Stepped). pick (leb (length (answerBytes (x .answer))) longestAnswer) (accepting x) (refusing u 9)) q
+      ∙ ap (λ (b : Bool). pick b (accepting s) (refusing u 9)) (le-leb (length (answerBytes (s .answer))) longestAnswer (answer-at-most (s .answer))) in
+      record { unit = sym (ap (λ (k : Replied). k .unit) by); bytes = sym (ap (λ (k : Replied). replyBytes (k .reply)) by) }
 
-    -- the manager has the answer, or the books have it
-    pub answers-answered : (a : Answer) → managedBy (u .manager) r .left ≡ left.Answer a
-        → Answers u l (unitOf (managedBy (u .manager) r .manager) (u .books)) (answerBytes a)
-    answers-answered a q = answers-stepped _ (steps-answered (u .manager) (u .books) r a q)
+  -- the unit is open afterwards
+  pub answers-step : (r : Record) (s : Stepped) → admittedBy (u .opened) l ≡ accepted r → s ≡ stepOf (u .manager) (u .books) r
+      → Answers u l (unitOf (s .unit .manager) (s .unit .books)) (answerBytes (s .answer))
+  answers-step r s e q =
+      let k = answers-stepped r s e (sym q) in
+      let opened : s .unit .opened ≡ true = ap (λ (x : Stepped). x .unit .opened) q ∙ step-opens (u .manager) (u .books) r in
+      record {
+        unit = ap (λ (b : Bool). record { opened = b; manager = s .unit .manager; books = s .unit .books }) (sym opened) ∙ k .unit;
+        bytes = k .bytes;
+      }
 
-    pub answers-entered : (n : Entry) → managedBy (u .manager) r .left ≡ left.Entry n
-        → Answers u l (unitOf (managedBy (u .manager) r .manager) (enteredIn (u .books) n .books)) (answerBytes (enteredIn (u .books) n .answer))
-    answers-entered n q = answers-stepped _ (steps-entered (u .manager) (u .books) r n q)
+  -- the same where what is printed is known by another name
+  answers-said : (r : Record) (s : Stepped) (said : List ℕ) → admittedBy (u .opened) l ≡ accepted r → stepOf (u .manager) (u .books) r ≡ s
+      → said ≡ answerBytes (s .answer) → Answers u l (s .unit) said
+  answers-said r s said e q b = let k = answers-stepped r s e q in record { unit = k .unit; bytes = b ∙ k .bytes }
 
-  -- a byte that the parser only collects
-  pub answers-collected : (x t : ℕ) → admittedBy (u .opened) l ≡ accepted (kind.WireByte x t) → ltb (u .manager .parser .len) 9 ≡ true
-      → Answers u l (unitOf (setParser (collected (u .manager .parser) x .parser) (heardBy (u .manager) t)) (u .books)) (0x00 ∷ 0x00 ∷ [])
-  unfolding answerBytes bodyBytes wireBytes
-  answers-collected x t e few =
-      answers-stepped (kind.WireByte x t) e (stepped (setParser (collected (u .manager .parser) x .parser) (heardBy (u .manager) t)) (u .books)
-      (answer.Wire wire.None)) (only-collected (u .manager) (u .books) x t few)
+  -- 01
+  pub answers-next : (t : ℕ) → admittedBy (u .opened) l ≡ accepted (kind.NextRequest t)
+      → Answers u l (unitOf (u .manager) (u .books)) (answerBytes (answer.Request (nextRequest (u .manager) t)))
+  answers-next t e = answers-stepped _ _ e (step-next (u .manager) (u .books) t)
+
+  -- 02
+  pub answers-marked : (q : EscActuatorRequest) (t : ℕ) → admittedBy (u .opened) l ≡ accepted (kind.MarkRequestQueued q t)
+      → Answers u l (unitOf (markQueued (u .manager) q t .manager) (u .books)) (0x00 ∷ flagByte (markQueued (u .manager) q t .answer) ∷ [])
+  answers-marked q t e = answers-said _ _ _ e (step-mark (u .manager) (u .books) t q) (sym (decided-bytes _))
+
+  -- 03: the outcome decides
+  module _ (k : EscActuatorAck) (t : ℕ) (e : admittedBy (u .opened) l ≡ accepted (kind.ActuatorAck k t)) where
+    pub answers-rejected : onAck (u .manager) k .answer ≡ outcome.Rejected
+        → Answers u l (unitOf (onAck (u .manager) k .manager) (u .books)) (0x00 ∷ flagByte false ∷ [])
+    answers-rejected o = answers-said _ _ _ e (step-ack (u .manager) (u .books) t k _ o) (sym rejected-bytes)
+
+    pub answers-accepted : onAck (u .manager) k .answer ≡ outcome.Accepted
+        → Answers u l (unitOf (onAck (u .manager) k .manager) (u .books)) (0x00 ∷ flagByte true ∷ [])
+    answers-accepted o = answers-said _ _ _ e (step-ack (u .manager) (u .books) t k _ o) (sym accepted-bytes)
+
+    pub answers-acked : (x : EscTelemetryUpdate) → onAck (u .manager) k .answer ≡ outcome.Sample x
+        → Answers u l (unitOf (onAck (u .manager) k .manager) (bookedIn (u .books) x t .books))
+        (0x00 ∷ deliveredBytes (record { update = x; status = bookedIn (u .books) x t .status }))
+    answers-acked x o = answers-said _ _ _ e (step-ack (u .manager) (u .books) t k _ o) (sym (ack-sample-bytes _))
+
+  -- 04
+  pub answers-polled : (t : ℕ) → admittedBy (u .opened) l ≡ accepted (kind.PollTimeout t)
+      → Answers u l (unitOf (pollTimeout (u .manager) t .manager) (u .books)) (answerBytes (answer.Timeout (pollTimeout (u .manager) t .answer)))
+  answers-polled t e = answers-stepped _ _ e (step-poll (u .manager) (u .books) t)
+
+  -- 05: a sample or none
+  module _ (x t : ℕ) (e : admittedBy (u .opened) l ≡ accepted (kind.WireByte x t)) where
+    pub answers-none : pushWire (u .manager) x t .answer ≡ update.None
+        → Answers u l (unitOf (pushWire (u .manager) x t .manager) (u .books)) (0x00 ∷ flagByte false ∷ [])
+    answers-none o = answers-said _ _ _ e (step-byte (u .manager) (u .books) t x _ o) (sym no-wire-bytes)
+
+    pub answers-heard : (y : EscTelemetryUpdate) → pushWire (u .manager) x t .answer ≡ update.Some y
+        → Answers u l (unitOf (pushWire (u .manager) x t .manager) (bookedIn (u .books) y t .books))
+        (0x00 ∷ deliveredBytes (record { update = y; status = bookedIn (u .books) y t .status }))
+    answers-heard y o = answers-said _ _ _ e (step-byte (u .manager) (u .books) t x _ o) (sym (wire-sample-bytes _))
+
+    -- a byte that the parser only collects
+    pub answers-collected : ltb (u .manager .parser .len) 9 ≡ true
+        → Answers u l (unitOf (setParser (collected (u .manager .parser) x .parser) (heardBy (u .manager) t)) (u .books)) (0x00 ∷ flagByte false ∷ [])
+    answers-collected few =
+        let by = pushed-collected (u .manager) x t few in
+        let none = answers-none (ap (λ (r : Received). r .answer) by) in
+        record { unit = ap (λ (r : Received). unitOf (r .manager) (u .books)) (sym by) ∙ none .unit; bytes = none .bytes }

@@ -7,18 +7,19 @@ use native.Mathlib.Nat.{add-zero}
 use lib.ListN.{length, take, drop, length-append, length-drop, take-append-drop, drop-of-length-le}
 use lib.Seq.{take-all, take-add, take-at, drop-drop, length-take-le}
 use Rattle.base.specs.BigEndian.{overwrite}
-use Rattle.base.specs.Reply.{Reply}
 use Rattle.base.proofs.ByCases.{below-or-not}
 use Rattle.base.proofs.BigEndianLaws.{overwrite-append}
+use Rattle.base.specs.Reply.{Reply}
+use Rattle.esc_records.specs.declared.record.Record.{Record}
 use Rattle.esc_unit.specs.Unit.{Replied}
 use Rattle.esc_records.specs.Answer.{replyBytes}
 use Rattle.esc_unit.specs.declared.unit.Unit.{Unit}
 use Rattle.unit_text.specs.Line.{lineEnd, readLine, printedLine, longestRecord, mostHeld}
 use Rattle.unit_text.specs.Session.{answerOn, answerLine, unitAfter, lineText}
 use Rattle.unit_text.specs.Stream.{Streamed, after, printed, taken, feedOf, fedOutput, longestLine}
-use Rattle.unit_text.specs.NextLine.{firstLine, NextFrom}
+use Rattle.unit_text.specs.NextLine.{firstLine, BufferHolds}
 use Rattle.unit_text.specs.Answering.{Answers, PrintedAt}
-use Rattle.unit_text.specs.declared.next_line.NextLine.the-variants.{Open}
+use Rattle.unit_text.specs.NextRecord.{RecordEnded}
 use Rattle.base.proofs.PutLaws.{overwrite-none}
 use Rattle.unit_text.proofs.LinesLaws.{Unended}
 use Rattle.unit_text.proofs.FirstLine.{first-unended, first-split}
@@ -112,36 +113,46 @@ module _ {s : Streamed} {chunk out₀ : List ℕ} {unit : Unit} {line : List ℕ
       fed-by s chunk out₀ _ out used written none (k .within) (k .stream) (k .count) (k .text)
 
   module _ (roomy : longestLine ≤ length out₀ - written) where
-    -- the chunk ends before the line does
-    pub fed-open : (n : ℕ) (line′ bytes′ : List ℕ) → NextFrom begun left (Open n) line′ bytes′
-        → (record { stream = record { unit = unit; line = take n line′ }; used = length chunk; written = written } ≡ feedOf s chunk (length out₀))
-        × (out ≡ fedOutput s chunk out₀)
+    -- the chunk ends before the line does: all of it is used
+    pub feeding-open : (n : ℕ) (line′ bytes′ : List ℕ) → firstLine left ≡ left → BufferHolds (begun ++ left) n line′ → length bytes′ ≡ longestRecord
+        → Feeding s chunk out₀ unit line′ n bytes′ out (length chunk) written
     unfolding taken
-    fed-open n line′ bytes′ c =
-        let plain : Unended left = rw (c .0) at (first-unended left) in
+    feeding-open n line′ bytes′ whole holds b =
+        let plain : Unended left = rw whole at (first-unended left) in
         let all : take (length chunk) chunk ≡ take used chunk ++ left = take-all (length chunk) chunk (omega arith) ∙ sym (take-append-drop used chunk) in
         let s′ : record { unit = unit; line = take n line′ } ≡ after s (take (length chunk) chunk) =
         rw (all, after-append s (take used chunk) left, ← k .stream)
-        (ap (λ (l : List ℕ). record { unit = unit; line = l }) (c .1 .held) ∙ sym (after-held unit begun left short plain)) in
+        (ap (λ (l : List ℕ). record { unit = unit; line = l }) (holds .held) ∙ sym (after-held unit begun left short plain)) in
         let p : printed s (take (length chunk) chunk) ≡ printed s (take used chunk) =
         rw (all, printed-append s (take used chunk) left, printed-past (after s (take used chunk)) left plain) (append-nil (printed s (take used chunk))) in
         let t : taken (after s (take used chunk)) (length out₀ - written) left ≡ length left =
         ap (taken (after s (take used chunk)) (length out₀ - written)) (sym (append-nil left))
         ∙ taken-past (after s (take used chunk)) (length out₀ - written) left [] roomy plain
         ∙ add-zero (length left) in
-        fed-by s chunk out₀ _ out (length chunk) written (omega (arith, k .rest, t, length-drop used chunk, k .within)) (omega arith) s′
-        (k .count ∙ ap length (sym p)) (rw p (k .text))
+        let none : drop (length chunk) chunk ≡ [] = drop-of-length-le chunk {i = length chunk} (omega arith) in
+        record {
+          within = omega arith;
+          buffer = holds .room;
+          holds = holds .within;
+          room = b;
+          long = k .long;
+          stream = s′;
+          count = k .count ∙ ap length (sym p);
+          fits = k .fits;
+          text = rw p (k .text);
+          rest = rw none (omega (arith, k .rest, t, length-drop used chunk, k .within));
+        }
 
     -- a line, answered
-    module _ (heard : Reply (List ℕ)) (next : ℕ) (ended : length (firstLine left) < length left) (behind : next ≡ length (firstLine left) + 1)
-        (read : heard ≡ readLine (begun ++ firstLine left)) (unit′ : Unit) (reply : List ℕ) (e : Answers unit heard unit′ reply)
+    module _ (next : ℕ) (ended : length (firstLine left) < length left) (behind : next ≡ length (firstLine left) + 1)
+        (unit′ : Unit) (reply : List ℕ) (e : Answers unit (readLine (begun ++ firstLine left)) unit′ reply)
         (written′ : ℕ) (out′ : List ℕ) (p : PrintedAt reply written out written′ out′) where
       abbrev more : List ℕ
       more = firstLine left
 
-      answers : answerOn unit heard ≡ answerLine unit (begun ++ more)
+      answers : answerOn unit (readLine (begun ++ more)) ≡ answerLine unit (begun ++ more)
       unfolding answerLine
-      answers = ap (answerOn unit) read
+      answers = refl
 
       said : printedLine reply ≡ lineText unit (begun ++ more)
       unfolding lineText
@@ -205,3 +216,14 @@ module _ {s : Streamed} {chunk out₀ : List ℕ} {unit : Unit} {line : List ℕ
                 (omega (arith, next-place, room-after))));
             rest = omega (arith, k .rest, taken-after);
           }
+
+-- a line whose record was refused or taken, answered and printed
+pub feeding-record : {s : Streamed} {chunk out₀ : List ℕ} {unit : Unit} {line : List ℕ} {held : ℕ} {bytes out : List ℕ} {used written : ℕ}
+    {admission : Reply Record} {next : ℕ} {line′ bytes′ : List ℕ} {unit′ : Unit} {said : List ℕ} {written′ : ℕ} {out′ : List ℕ}
+    → Feeding s chunk out₀ unit line held bytes out used written → longestLine ≤ length out₀ - written
+    → RecordEnded (unit .opened) (take held line) (drop used chunk) admission next line′
+    → Answers unit (readLine (take held line ++ firstLine (drop used chunk))) unit′ said → PrintedAt said written out written′ out′
+    → length out′ ≡ length out → length bytes′ ≡ longestRecord
+    → Feeding s chunk out₀ unit′ line′ 0 bytes′ out′ (used + next) written′
+feeding-record k roomy ended answers printed kept b =
+    feeding-line k roomy _ (ended .ends) (ended .behind) _ _ answers _ _ printed _ _ (ended .room) b kept

@@ -5,6 +5,7 @@ mod digit;
 mod hand;
 mod line;
 mod next_line;
+mod next_record;
 mod pair;
 mod stream;
 mod whole_session;

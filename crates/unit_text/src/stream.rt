@@ -7,25 +7,30 @@ ghost use Rattle.base.specs.Handed.{handedReply, handedOutput, handed};
 ghost use Rattle.unit_text.specs.Stream.{atStart, feedOf, fedOutput, printedAtEnd};
 ghost use Rattle.unit_text.specs.Streams.{streamed, fed};
 ghost use Rattle.unit_text.specs.Line.{mostHeld};
-use crate::answer::admit_line;
-use crate::answer::print_answer;
-use crate::answer::print_nothing;
+use crate::answer::print_flag;
 use crate::answer::print_refusal;
+use crate::answer::print_text;
 use crate::digit::digits;
 use crate::line::LINE_END;
 use crate::line::LONGEST_RECORD;
 use crate::next_line::HELD;
-use crate::next_line::NextLine;
-use crate::next_line::next_line;
+use crate::next_record::NextRecord;
+use crate::next_record::next_record;
 use crate::wire_line::WIRE_LINE;
 use crate::wire_line::WireLine;
 use crate::wire_line::collected_byte;
 use base::Handed;
 use base::hand;
-use esc_unit::Admitted;
-use esc_unit::Left;
+use esc_feedback::EscAckOutcome;
+use esc_feedback::WireUpdate;
+use esc_records::Delivered;
+use esc_records::Record;
+use esc_records::answer_text;
+use esc_records::delivered_text;
+use esc_records::next_text;
+use esc_records::timeout_text;
 use esc_unit::Unit;
-use esc_unit::manage;
+use esc_unit::step;
 
 // As much as any printed line takes.
 pub const LONGEST_LINE: usize = 87;
@@ -64,7 +69,8 @@ impl Stream {
     {
         let digits = digits();
         let mut bytes = [0u8; LONGEST_RECORD];
-        // The unit's parts are variables of their own, so that a line moves only what it touches.
+        // The unit's parts are variables of their own and the five kinds of a flight stand in the loop, so that
+        // a line moves only what it touches: a call for each line that takes the unit costs as much again.
         let first = self.unit;
         let mut opened = first.opened;
         let mut manager = first.manager;
@@ -75,78 +81,104 @@ impl Stream {
         let mut written: usize = 0;
         while used < chunk.len() {
             if out.len() - written < LONGEST_LINE {
-                let unit = Unit {
-                    opened,
-                    manager,
-                    books,
-                };
-                let stream = Stream { unit, line, held };
-                return Fed {
-                    stream,
-                    used,
-                    written,
-                };
+                break;
             }
             let parser = manager.parser;
             let byte = collected_byte(&digits, &chunk[used..], held, opened, parser);
-            match byte {
-                WireLine::Byte(byte, at_ms) => {
-                    let collected = parser.collected(byte);
-                    manager.parser = collected;
-                    let fault = manager.fault;
-                    let heard = fault.heard(at_ms);
-                    manager.fault = heard;
-                    written = print_nothing(out, written);
-                    used += WIRE_LINE + 1;
+            if let WireLine::Byte(byte, at_ms) = byte {
+                let collected = parser.collected(byte);
+                manager.parser = collected;
+                let fault = manager.fault;
+                let heard = fault.heard(at_ms);
+                manager.fault = heard;
+                written = print_flag(false, out, written);
+                used += WIRE_LINE + 1;
+                continue;
+            }
+            let found = next_record(&digits, &chunk[used..], &mut line, held, &mut bytes, opened);
+            match found {
+                NextRecord::Open(n) => {
+                    held = n;
+                    used = chunk.len();
                 }
-                WireLine::Other => {
-                    let found = next_line(&digits, &chunk[used..], &mut line, held, &mut bytes);
-                    match found {
-                        NextLine::Open(n) => {
-                            let unit = Unit {
-                                opened,
-                                manager,
-                                books,
-                            };
-                            let stream = Stream {
-                                unit,
-                                line,
-                                held: n,
-                            };
-                            return Fed {
-                                stream,
-                                used: chunk.len(),
-                                written,
-                            };
+                NextRecord::Refused(number, next) => {
+                    held = 0;
+                    used += next;
+                    written = print_refusal(number, out, written);
+                }
+                NextRecord::Record(record, next) => {
+                    held = 0;
+                    used += next;
+                    opened = true;
+                    match record {
+                        Record::NextRequest { now_ms } => {
+                            let request = manager.next_request(now_ms);
+                            written = print_text(next_text(request), out, written);
                         }
-                        NextLine::Ended(read, next) => {
-                            held = 0;
-                            used += next;
-                            let admission = admit_line(opened, read, &bytes);
-                            match admission {
-                                Admitted::Refused(number) => {
-                                    written = print_refusal(number, out, written);
+                        Record::MarkRequestQueued { request, now_ms } => {
+                            let marked = manager.mark_request_queued(request, now_ms);
+                            let after = marked.manager;
+                            manager = after;
+                            written = print_flag(marked.answer, out, written);
+                        }
+                        Record::ActuatorAck { ack, now_ms } => {
+                            let acked = manager.on_actuator_ack(ack);
+                            let after = acked.manager;
+                            manager = after;
+                            let outcome = acked.answer;
+                            match outcome {
+                                EscAckOutcome::Rejected => {
+                                    written = print_flag(false, out, written);
                                 }
-                                Admitted::Record(record) => {
-                                    opened = true;
-                                    let done = manage(manager, record);
-                                    let after = done.manager;
-                                    manager = after;
-                                    let left = done.left;
-                                    match left {
-                                        Left::Answer(answer) => {
-                                            written = print_answer(answer, out, written);
-                                        }
-                                        Left::Entry(entry) => {
-                                            let entered = books.entered(entry);
-                                            let kept = entered.books;
-                                            books = kept;
-                                            let answer = entered.answer;
-                                            written = print_answer(answer, out, written);
-                                        }
-                                    }
+                                EscAckOutcome::Accepted => {
+                                    written = print_flag(true, out, written);
+                                }
+                                EscAckOutcome::Sample(update) => {
+                                    let booked = books.booked(update, now_ms);
+                                    let kept = booked.books;
+                                    books = kept;
+                                    let status = booked.status;
+                                    let text = delivered_text(Delivered { update, status });
+                                    written = print_text(text, out, written);
                                 }
                             }
+                        }
+                        Record::PollTimeout { now_ms } => {
+                            let polled = manager.poll_timeout(now_ms);
+                            let after = polled.manager;
+                            manager = after;
+                            let timeout = polled.answer;
+                            written = print_text(timeout_text(timeout), out, written);
+                        }
+                        Record::WireByte {
+                            byte,
+                            observed_at_ms,
+                        } => {
+                            let received = manager.push_wire_byte(byte, observed_at_ms);
+                            let after = received.manager;
+                            manager = after;
+                            let update = received.answer;
+                            match update {
+                                WireUpdate::None => {
+                                    written = print_flag(false, out, written);
+                                }
+                                WireUpdate::Some(update) => {
+                                    let booked = books.booked(update, observed_at_ms);
+                                    let kept = booked.books;
+                                    books = kept;
+                                    let status = booked.status;
+                                    let text = delivered_text(Delivered { update, status });
+                                    written = print_text(text, out, written);
+                                }
+                            }
+                        }
+                        _ => {
+                            let stepped = step(manager, books, record);
+                            let unit = stepped.unit;
+                            manager = unit.manager;
+                            books = unit.books;
+                            let answer = stepped.answer;
+                            written = print_text(answer_text(answer), out, written);
                         }
                     }
                 }

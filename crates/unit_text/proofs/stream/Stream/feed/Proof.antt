@@ -1,22 +1,27 @@
--- Every turn answers the next line of the chunk, in place where a byte is only collected.
+-- Every turn answers the next line of the chunk, in place where a byte is only collected; each kind of a flight by its own law.
 use borrow.Author.Needs.{needs}
 use native.Mathlib.Omega.{arith}
 use mathlib.Core.Path.{_≡_, sym, ap, _∙_}
 use mathlib.Core.Bool.{Bool}
-use mathlib.Core.List.{List, _++_}
-use Prim.Native.Nat.{ℕ, _+_, _-_, _≤_}
+use mathlib.Core.List.{List, [], _∷_, _++_}
+use Prim.Native.Nat.{ℕ, _+_, _-_, _≤_, _<_}
 use denote.Ref.{now}
 use lib.ListN.{length, take, drop}
-use Rattle.base.specs.Reply.{Reply}
-use Rattle.esc_unit.specs.Admission.{admitted}
+use Rattle.base.specs.Reply.{Reply, accepted, refused}
+use Rattle.esc_feedback.specs.declared.answer.EscAckOutcome.{EscAckOutcome}
+use Rattle.esc_records.specs.Answer.{longestAnswer}
+use Rattle.esc_records.specs.declared.record.Record.{Record}
+use Rattle.esc_records.proofs.AnswerLaws.{answer-fits, delivered-fits}
 use Rattle.esc_unit.specs.declared.unit.Unit.{Unit}
-use Rattle.unit_text.specs.Line.{readLine, lineRead}
-use Rattle.unit_text.specs.NextLine.{firstLine, NextFrom}
+use Rattle.unit_text.specs.Line.{readLine}
+use Rattle.unit_text.specs.NextLine.{firstLine}
+use Rattle.unit_text.specs.NextRecord.{RecordEnded, NextRecordFrom}
 use Rattle.unit_text.specs.Answering.{admittedBy}
+use Rattle.unit_text.specs.Stream.{longestLine}
 use Rattle.unit_text.specs.WireLine.{CollectedAt}
-use Rattle.unit_text.specs.declared.next_line.NextLine.the-variants.{Ended}
-use Rattle.unit_text.proofs.AnswersLaws.{answers-refused, answers-collected, answers-answered, answers-entered}
-use Rattle.unit_text.proofs.Feeding.{Feeding, feeding-none, held-line, part-left, fed-stop, fed-end, fed-open, feeding-line, goes-on}
+use Rattle.unit_text.specs.declared.next_record.NextRecord.{NextRecord}
+use Rattle.unit_text.proofs.AnswersLaws.{answers-refused, answers-step, answers-next, answers-marked, answers-rejected, answers-accepted, answers-acked, answers-polled, answers-none, answers-heard, answers-collected}
+use Rattle.unit_text.proofs.Feeding.{Feeding, feeding-none, held-line, part-left, fed-stop, fed-end, feeding-open, feeding-line, feeding-record, goes-on}
 use Rattle.unit_text.proofs.stream.Stream.feed.Statement.{statement}
 use Rattle.unit_text.proofs.stream.Stream.feed.Tie as tie
 
@@ -29,73 +34,88 @@ abbrev μ-loop : tie.MeasureT-loop
 μ-loop chunk out₀ digits bytes₀ opened₀ manager₀ books₀ line₀ held₀ used₀ written₀ out bytes opened manager books line held used written = length chunk - used
 
 -- no more than the buffer is held, whatever the stream says
-held : (c : tie.After-at-most-held Inv-loop μ-loop) → take (c .before .before .before .before .before .before .before .before .args .self .held)
-    (c .before .before .before .before .before .before .before .before .args .self .line)
+held : (c : tie.After-at-most-held Inv-loop μ-loop) → take (c .before .before .before .before .before .before .before .before .args .self .held) (c .before .before .before .before .before .before .before .before .args .self .line)
     ≡ take (c .at-most-held .result) (c .before .before .before .before .before .before .before .before .args .self .line)
 held c = held-line _ (c .before .before .before .before .before .before .before .before .args .self .held) _ (search needs) (c .at-most-held .ensures)
 
+-- a turn: there is room for any line more
+module _ (t : tie.Else1 Inv-loop μ-loop) where
+  abbrev chunk : List ℕ
+  chunk = now (t .before .before .before .before .before .before .before .before .before .before .before .args .chunk)
+
+  abbrev left-over : List ℕ
+  left-over = drop (t .before .before .loop .used) chunk
+
+  -- the unit before the line, and the line
+  abbrev was : Unit
+  was = record { opened = t .before .before .loop .opened; manager = t .before .before .loop .manager; books = t .before .before .loop .books }
+
+  abbrev begun : List ℕ
+  begun = take (t .before .before .loop .held) (t .before .before .loop .line)
+
+  abbrev heard : Reply (List ℕ)
+  heard = readLine (begun ++ firstLine left-over)
+
+  roomy : longestLine ≤ length (now (t .before .before .before .before .before .before .before .before .before .before .before .args .out)) - t .before .before .loop .written
+  roomy = omega (arith, t .before .before .loop .inv .long, t .if1 .left)
+
+  room : t .before .before .loop .written + longestLine ≤ length (t .before .before .loop .out)
+  room = omega (arith, t .before .before .loop .inv .long, t .if1 .left)
+
 -- a byte that was read from where its line stands
 module _ (c : tie.After-known-told Inv-loop μ-loop) where
-  abbrev left-over : List ℕ
-  left-over = drop (c .before .before .before .before .before .before .before .before .before .loop .used)
-      (now (c .before .before .before .before .before .before .before .before .before .before .before .before .before .before .before .before .before
-      .before .args .chunk))
+  abbrev byte-turn : tie.Else1 Inv-loop μ-loop
+  byte-turn = c .before .before .before .before .before .before .before
 
-  byte : CollectedAt (c .before .before .before .before .before .before .before .before .before .loop .held)
-      (c .before .before .before .before .before .before .before .before .before .loop .opened)
-      (c .before .before .before .before .before .before .before .before .before .loop .manager .parser) left-over (c .before .byte .given .0 .0)
-      (c .before .byte .given .0 .1 .0)
-  byte = rw (c .before .byte .given .1, part-left _ (c .before .before .before .before .before .before .before .before .before .loop .used))
-      at (c .before .before .before .collected-byte .ensures)
+  byte : CollectedAt (byte-turn .before .before .loop .held) (byte-turn .before .before .loop .opened) (byte-turn .before .before .loop .manager .parser)
+      (left-over byte-turn) (c .before .byte .given .0 .0) (c .before .byte .given .0 .1 .0)
+  byte = rw (c .before .byte .given .1, part-left _ (byte-turn .before .before .loop .used)) at (c .before .before .before .collected-byte .ensures)
 
-  passes : c .before .before .before .before .before .before .before .before .before .loop .used + 21 ≤ length
-      (now (c .before .before .before .before .before .before .before .before .before .before .before .before .before .before .before .before .before
-      .before .args .chunk))
-  passes = goes-on (c .before .before .before .before .before .before .before .before .before .loop .inv) 21
-      (omega (arith, byte .line .ends, byte .line .long)) (omega (arith, byte .line .ends))
+  passes : byte-turn .before .before .loop .used + 21 ≤ length (chunk byte-turn)
+  passes = goes-on (byte-turn .before .before .loop .inv) 21 (omega (arith, byte .line .ends, byte .line .long)) (omega (arith, byte .line .ends))
 
--- the line that was found
+-- a line that was looked for
+module _ (c : tie.After-bytes2 Inv-loop μ-loop) where
+  abbrev turn : tie.Else1 Inv-loop μ-loop
+  turn = c .before .before .before .before .before .before .before .before .before .before .before .before .before
+
+  -- its buffer and its bytes afterwards
+  abbrev line-after : List ℕ
+  line-after = c .before .before .next-record .last .1 .1 .0
+
+  abbrev bytes-after : List ℕ
+  bytes-after = c .before .before .next-record .last .1 .1 .1 .1 .0
+
+  bytes-room : length bytes-after ≡ 29
+  bytes-room = c .before .before .next-record .kept .1 .1 .1 .1 .0 ∙ turn .before .before .loop .inv .room
+
+  found : (r : NextRecord) → c .before .before .next-record .result ≡ r → NextRecordFrom (was turn .opened) (begun turn) (left-over turn) r line-after
+  found r e = rw (e, part-left _ (turn .before .before .loop .used)) at (c .before .before .next-record .ensures)
+
+  module _ {admission : Reply Record} {next : ℕ} (ended : RecordEnded (was turn .opened) (begun turn) (left-over turn) admission next line-after) where
+    goes : turn .before .before .loop .used + next ≤ length (chunk turn)
+    goes = goes-on (turn .before .before .loop .inv) next (ended .ends) (ended .behind)
+
+    less : length (chunk turn) - (turn .before .before .loop .used + next) < length (chunk turn) - turn .before .before .loop .used
+    less = omega (arith, ended .behind, goes)
+
+-- a record that was refused
 module _ (c : tie.After-known-told3 Inv-loop μ-loop) where
-  found : NextFrom
-      (take (c .before .before .before .before .before .before .before .before .before .before .before .before .before .before .before .before .before
-      .before .loop .held)
-      (c .before .before .before .before .before .before .before .before .before .before .before .before .before .before .before .before .before
-      .before .loop .line))
-      (drop (c .before .before .before .before .before .before .before .before .before .before .before .before .before .before .before .before .before
-      .before .loop .used)
-      (now (c .before .before .before .before .before .before .before .before .before .before .before .before .before .before .before .before .before
-      .before .before .before .before .before .before .before .before .before .before .args .chunk)))
-      (Ended (c .before .found2 .given .0 .0) (c .before .found2 .given .0 .1 .0))
-      (c .before .before .before .before .before .next-line .last .1 .1 .0)
-      (c .before .before .before .before .before .next-line .last .1 .1 .1 .1 .0)
-  found = rw (
-    c .before .found2 .given .1,
-    part-left _
-        (c .before .before .before .before .before .before .before .before .before .before .before .before .before .before .before .before .before
-        .before .loop .used),
-  ) at (c .before .before .before .before .before .next-line .ensures)
+  refusal : RecordEnded (was (turn (c .before .before .before)) .opened) (begun (turn (c .before .before .before))) (left-over (turn (c .before .before .before)))
+      (refused (c .before .found2 .given .0 .0)) (c .before .found2 .given .0 .1 .0) (line-after (c .before .before .before))
+  refusal = found (c .before .before .before) _ (c .before .found2 .given .1)
 
-  -- the unit before it, and what was read
-  abbrev was : Unit
-  was = record {
-    opened = c .before .before .before .before .before .before .before .before .before .before .before .before .before .before .before .before
-        .before .before .loop .opened;
-    manager = c .before .before .before .before .before .before .before .before .before .before .before .before .before .before .before .before
-        .before .before .loop .manager;
-    books = c .before .before .before .before .before .before .before .before .before .before .before .before .before .before .before .before
-        .before .before .loop .books;
-  }
+-- a record that is taken
+module _ (c : tie.After-known-told4 Inv-loop μ-loop) where
+  abbrev record-turn : tie.Else1 Inv-loop μ-loop
+  record-turn = turn (c .before .before .before)
 
-  abbrev heard-line : Reply (List ℕ)
-  heard-line = lineRead (c .before .found2 .given .0 .0) (c .before .before .before .before .before .next-line .last .1 .1 .1 .1 .0)
+  taken : RecordEnded (was record-turn .opened) (begun record-turn) (left-over record-turn)
+      (accepted (c .before .found3 .given .0 .0)) (c .before .found3 .given .0 .1 .0) (line-after (c .before .before .before))
+  taken = found (c .before .before .before) _ (c .before .found3 .given .1)
 
-  goes : c .before .before .before .before .before .before .before .before .before .before .before .before .before .before .before .before .before
-      .before .loop .used + c .before .found2 .given .0 .1 .0 ≤ length
-      (now (c .before .before .before .before .before .before .before .before .before .before .before .before .before .before .before .before .before
-      .before .before .before .before .before .before .before .before .before .before .args .chunk))
-  goes = goes-on
-      (c .before .before .before .before .before .before .before .before .before .before .before .before .before .before .before .before .before
-      .before .loop .inv) _ (found .0) (found .1)
+  takes : (r : Record) → c .before .found3 .given .0 .0 ≡ r → admittedBy (was record-turn .opened) (heard record-turn) ≡ accepted r
+  takes r e = taken .admitted ∙ ap accepted e
 
 digits-requires : tie.Need-digits-requires Inv-loop μ-loop
 digits-requires c κs = search needs
@@ -108,14 +128,6 @@ loop-holds c = feeding-none _ _ _ _ _ _ (search needs) (omega (arith, c .at-most
 
 sub-if1 : tie.Need-sub-if1 Inv-loop μ-loop
 sub-if1 c = search needs
-
-same-length : tie.Need-same-length Inv-loop μ-loop
-same-length c = search needs
-
-returns : tie.Need-returns Inv-loop μ-loop
-returns c =
-    let l = c .before .before .loop in
-    rw (held (c .before .before .before)) (fed-stop (l .inv) (omega arith))
 
 sub-collected-byte : tie.Need-sub-collected-byte Inv-loop μ-loop
 sub-collected-byte c = search needs
@@ -138,25 +150,14 @@ collected-requires c κs = search needs
 heard-requires : tie.Need-heard-requires Inv-loop μ-loop
 heard-requires c κs = search needs
 
-print-nothing-requires : tie.Need-print-nothing-requires Inv-loop μ-loop
-print-nothing-requires c κs =
-    omega (
-      arith,
-      c .before .before .before .before .before .before .before .before .before .before .before .before .before .loop .inv .long,
-      c .before .before .before .before .before .before .before .before .before .before .before .if1 .left,
-    )
+print-flag-requires : tie.Need-print-flag-requires Inv-loop μ-loop
+print-flag-requires c κs = room (c .before .before .before .before .before .before .before .before .before .before .before)
 
 add-used : tie.Need-add-used Inv-loop μ-loop
 add-used c = search needs
 
 add-used-2 : tie.Need-add-used-2 Inv-loop μ-loop
-add-used-2 c =
-    omega (
-      arith,
-      c .before .before .before .before .before .before .before .before .before .before .before .before .before .before .before .before .before .before
-          .before .before .before .before .before .before .before .good,
-      passes (c .before .before .before .before .before .before .before),
-    )
+add-used-2 c = omega (arith, c .before .before .before .before .before .before .before .before .before .before .before .before .before .before .before .before .before .before .before .before .before .before .before .before .before .good, passes (c .before .before .before .before .before .before .before))
 
 loop-less : tie.Need-loop-less Inv-loop μ-loop
 loop-less c = omega (arith, passes (c .before .before .before .before .before .before .before))
@@ -164,222 +165,312 @@ loop-less c = omega (arith, passes (c .before .before .before .before .before .b
 loop-again : tie.Need-loop-again Inv-loop μ-loop
 loop-again c =
     let t = c .before .before .before .before .before .before .before in
-    let l = t .before .before .before .before .before .before .before .before .before .loop in
+    let l = byte-turn t .before .before .loop in
     let h = byte t in
-    let unit : Unit = record { opened = l .opened; manager = l .manager; books = l .books } in
-    let heard = readLine (firstLine (left-over t)) in
-    let said = answers-collected unit heard _ _ (ap (λ (b : Bool). admittedBy b heard) (h .before) ∙ h .line .admitted) (h .few) in
+    let line : heard (byte-turn t) ≡ readLine (firstLine (left-over (byte-turn t))) =
+    ap (λ (n : ℕ). readLine (take n (l .line) ++ firstLine (left-over (byte-turn t)))) (h .none) in
+    let admitted : admittedBy (l .opened) (heard (byte-turn t)) ≡ accepted _ =
+    ap (λ (r : Reply (List ℕ)). admittedBy (l .opened) r) line ∙ ap (λ (b : Bool). admittedBy b (readLine (firstLine (left-over (byte-turn t))))) (h .before)
+    ∙ h .line .admitted in
     rw (h .none, c .before .before .before .before .before .before .collected .ensures, h .few, c .before .before .before .before .heard .ensures, h .before)
-    (feeding-line (l .inv) (omega (arith, l .inv .long, t .before .before .before .before .before .before .before .if1 .left)) heard 21
-    (omega (arith, h .line .ends, h .line .long)) (omega (arith, h .line .ends))
-    (ap (λ (n : ℕ). readLine (take n (l .line) ++ firstLine (left-over t))) (sym (h .none))) _ _ said _ _ (c .before .before .print-nothing .ensures)
-    (l .line) (l .bytes) (l .inv .buffer) (l .inv .room) (c .before .before .print-nothing .kept .0))
+    (feeding-line (l .inv) (roomy (byte-turn t)) 21 (omega (arith, h .line .ends, h .line .long)) (omega (arith, h .line .ends)) _ _
+    (answers-collected (was (byte-turn t)) _ _ _ admitted (h .few)) _ _ (c .before .before .print-flag .ensures)
+    (l .line) (l .bytes) (l .inv .buffer) (l .inv .room) (c .before .before .print-flag .kept .1 .0))
 
 enum-told : tie.Need-enum-told Inv-loop μ-loop
 enum-told c = search needs
 
-sub-next-line : tie.Need-sub-next-line Inv-loop μ-loop
-sub-next-line c = search needs
+sub-next-record : tie.Need-sub-next-record Inv-loop μ-loop
+sub-next-record c = search needs
 
-part-next-line-start : tie.Need-part-next-line-start Inv-loop μ-loop
-part-next-line-start c = search needs
+part-next-record-start : tie.Need-part-next-record-start Inv-loop μ-loop
+part-next-record-start c = search needs
 
-part-next-line-end : tie.Need-part-next-line-end Inv-loop μ-loop
-part-next-line-end c = search needs
+part-next-record-end : tie.Need-part-next-record-end Inv-loop μ-loop
+part-next-record-end c = search needs
 
-slice-aggregate-next-line : tie.Need-slice-aggregate-next-line Inv-loop μ-loop
-slice-aggregate-next-line c = search needs
+slice-aggregate-next-record : tie.Need-slice-aggregate-next-record Inv-loop μ-loop
+slice-aggregate-next-record c = search needs
 
-slice-aggregate-next-line-2 : tie.Need-slice-aggregate-next-line-2 Inv-loop μ-loop
-slice-aggregate-next-line-2 c = search needs
+slice-aggregate-next-record-2 : tie.Need-slice-aggregate-next-record-2 Inv-loop μ-loop
+slice-aggregate-next-record-2 c = search needs
 
-next-line-requires : tie.Need-next-line-requires Inv-loop μ-loop
-next-line-requires c κs = (
-  c .before .before .before .before .before .before .before .before .before .before .before .before .before .before .before .before .before
-      .before .digits .ensures,
-  c .before .before .before .before .before .before .before .before .before .before .before .before .loop .inv .room,
-  c .before .before .before .before .before .before .before .before .before .before .before .before .loop .inv .buffer,
-  c .before .before .before .before .before .before .before .before .before .before .before .before .loop .inv .holds,
-)
+next-record-requires : tie.Need-next-record-requires Inv-loop μ-loop
+next-record-requires c κs = (c .before .before .before .before .before .before .before .before .before .before .before .before .before .before .before .before .before .before .digits .ensures, c .before .before .before .before .before .before .before .before .before .before .before .before .loop .inv .room, c .before .before .before .before .before .before .before .before .before .before .before .before .loop .inv .buffer, c .before .before .before .before .before .before .before .before .before .before .before .before .loop .inv .holds)
 
 enum-known-found : tie.Need-enum-known-found Inv-loop μ-loop
 enum-known-found c = search needs
+
+loop-less-2 : tie.Need-loop-less-2 Inv-loop μ-loop
+loop-less-2 c = omega (arith, c .before .before .before .before .before .before .before .before .before .before .before .before .before .before .before .before .before .loop-test .taken)
+
+loop-again-2 : tie.Need-loop-again-2 Inv-loop μ-loop
+loop-again-2 c =
+    let t = c .before .before .before in
+    let begun-line = found t _ (c .before .found .given .1) in
+    feeding-open (turn t .before .before .loop .inv) (roomy (turn t)) _ _ _ (begun-line .0) (begun-line .1) (bytes-room t)
+
+enum-known-found-2 : tie.Need-enum-known-found-2 Inv-loop μ-loop
+enum-known-found-2 c = search needs
+
+add-used-3 : tie.Need-add-used-3 Inv-loop μ-loop
+add-used-3 c = omega (arith, c .before .before .before .before .before .before .before .before .before .before .before .before .before .before .before .before .before .before .before .before .before .before .before .before .before .before .before .good, goes (c .before .before .before) (refusal c))
+
+print-refusal-requires : tie.Need-print-refusal-requires Inv-loop μ-loop
+print-refusal-requires c κs = room (c .before .before .before .before .before .before .before .before .before .before .before .before .before .before .before .before .before)
+
+loop-less-3 : tie.Need-loop-less-3 Inv-loop μ-loop
+loop-less-3 c = less (c .before .before .before .before .before .before .before) (refusal (c .before .before .before .before))
+
+loop-again-3 : tie.Need-loop-again-3 Inv-loop μ-loop
+loop-again-3 c =
+    let t = c .before .before .before .before in
+    let b = t .before .before .before in
+    feeding-record (turn b .before .before .loop .inv) (roomy (turn b)) (refusal t)
+    (answers-refused (was (turn b)) (heard (turn b)) _ (refusal t .admitted)) (c .before .before .print-refusal .ensures)
+    (c .before .before .print-refusal .kept .1 .0) (bytes-room b)
+
+enum-known-found-3 : tie.Need-enum-known-found-3 Inv-loop μ-loop
+enum-known-found-3 c = search needs
+
+add-used-4 : tie.Need-add-used-4 Inv-loop μ-loop
+add-used-4 c = omega (arith, c .before .before .before .before .before .before .before .before .before .before .before .before .before .before .before .before .before .before .before .before .before .before .before .before .before .before .before .good, goes (c .before .before .before) (taken c))
+
+enum-known-record : tie.Need-enum-known-record Inv-loop μ-loop
+enum-known-record c = search needs
+
+next-request-requires : tie.Need-next-request-requires Inv-loop μ-loop
+next-request-requires c κs = search needs
+
+next-text-requires : tie.Need-next-text-requires Inv-loop μ-loop
+next-text-requires c κs = search needs
+
+print-text-requires : tie.Need-print-text-requires Inv-loop μ-loop
+print-text-requires c κs = (answer-fits _ (c .before .next-text .ensures .0), room (c .before .before .before .before .before .before .before .before .before .before .before .before .before .before .before .before .before .before .before .before .before .before))
+
+loop-less-4 : tie.Need-loop-less-4 Inv-loop μ-loop
+loop-less-4 c = less (c .before .before .before .before .before .before .before .before .before .before .before .before) (taken (c .before .before .before .before .before .before .before .before .before))
+
+loop-again-4 : tie.Need-loop-again-4 Inv-loop μ-loop
+loop-again-4 c =
+    let t = c .before .before .before .before .before .before .before .before .before in
+    let b = t .before .before .before in
+    let l = turn b .before .before .loop in
+    (feeding-record (l .inv) (roomy (turn b)) (taken t)
+    (answers-next (was (turn b)) (heard (turn b)) _ (takes t _ (c .before .before .before .before .before .before .before .«record» .given .1)))
+    (rw (c .before .before .before .before .next-text .ensures .1, c .before .before .before .before .before .next-request .ensures) at (c .before .before .print-text .ensures))
+    (c .before .before .print-text .kept .1 .0) (bytes-room b))
+
+enum-known-record-2 : tie.Need-enum-known-record-2 Inv-loop μ-loop
+enum-known-record-2 c = search needs
+
+mark-request-queued-requires : tie.Need-mark-request-queued-requires Inv-loop μ-loop
+mark-request-queued-requires c κs = search needs
+
+print-flag-requires-2 : tie.Need-print-flag-requires-2 Inv-loop μ-loop
+print-flag-requires-2 c κs = room (c .before .before .before .before .before .before .before .before .before .before .before .before .before .before .before .before .before .before .before .before .before .before)
+
+loop-less-5 : tie.Need-loop-less-5 Inv-loop μ-loop
+loop-less-5 c = less (c .before .before .before .before .before .before .before .before .before .before .before .before) (taken (c .before .before .before .before .before .before .before .before .before))
+
+loop-again-5 : tie.Need-loop-again-5 Inv-loop μ-loop
+loop-again-5 c =
+    let t = c .before .before .before .before .before .before .before .before .before in
+    let b = t .before .before .before in
+    let l = turn b .before .before .loop in
+    rw (c .before .before .before .before .before .mark-request-queued .ensures)
+    (feeding-record (l .inv) (roomy (turn b)) (taken t)
+    (answers-marked (was (turn b)) (heard (turn b)) _ _ (takes t _ (c .before .before .before .before .before .before .before .record2 .given .1)))
+    (rw (c .before .before .before .before .before .mark-request-queued .ensures) at (c .before .before .print-flag2 .ensures))
+    (c .before .before .print-flag2 .kept .1 .0) (bytes-room b))
+
+enum-known-record-3 : tie.Need-enum-known-record-3 Inv-loop μ-loop
+enum-known-record-3 c = search needs
+
+on-actuator-ack-requires : tie.Need-on-actuator-ack-requires Inv-loop μ-loop
+on-actuator-ack-requires c κs = search needs
+
+enum-told-2 : tie.Need-enum-told-2 Inv-loop μ-loop
+enum-told-2 c = search needs
+
+print-flag-requires-3 : tie.Need-print-flag-requires-3 Inv-loop μ-loop
+print-flag-requires-3 c κs = room (c .before .before .before .before .before .before .before .before .before .before .before .before .before .before .before .before .before .before .before .before .before .before .before .before)
+
+loop-less-6 : tie.Need-loop-less-6 Inv-loop μ-loop
+loop-less-6 c = less (c .before .before .before .before .before .before .before .before .before .before .before .before .before .before) (taken (c .before .before .before .before .before .before .before .before .before .before .before))
+
+loop-again-6 : tie.Need-loop-again-6 Inv-loop μ-loop
+loop-again-6 c =
+    let t = c .before .before .before .before .before .before .before .before .before .before .before in
+    let b = t .before .before .before in
+    let l = turn b .before .before .loop in
+    rw (c .before .before .before .before .before .before .before .on-actuator-ack .ensures)
+    (feeding-record (l .inv) (roomy (turn b)) (taken t)
+    (answers-rejected (was (turn b)) (heard (turn b)) _ _ (takes t _ (c .before .before .before .before .before .before .before .before .before .record3 .given .1)) (rw (c .before .before .before .before .before .before .before .on-actuator-ack .ensures) at (c .before .before .before .before .enum-told2 .given .1)))
+    (c .before .before .print-flag3 .ensures)
+    (c .before .before .print-flag3 .kept .1 .0) (bytes-room b))
+
+enum-told-3 : tie.Need-enum-told-3 Inv-loop μ-loop
+enum-told-3 c = search needs
+
+print-flag-requires-4 : tie.Need-print-flag-requires-4 Inv-loop μ-loop
+print-flag-requires-4 c κs = room (c .before .before .before .before .before .before .before .before .before .before .before .before .before .before .before .before .before .before .before .before .before .before .before .before)
+
+loop-less-7 : tie.Need-loop-less-7 Inv-loop μ-loop
+loop-less-7 c = less (c .before .before .before .before .before .before .before .before .before .before .before .before .before .before) (taken (c .before .before .before .before .before .before .before .before .before .before .before))
+
+loop-again-7 : tie.Need-loop-again-7 Inv-loop μ-loop
+loop-again-7 c =
+    let t = c .before .before .before .before .before .before .before .before .before .before .before in
+    let b = t .before .before .before in
+    let l = turn b .before .before .loop in
+    rw (c .before .before .before .before .before .before .before .on-actuator-ack .ensures)
+    (feeding-record (l .inv) (roomy (turn b)) (taken t)
+    (answers-accepted (was (turn b)) (heard (turn b)) _ _ (takes t _ (c .before .before .before .before .before .before .before .before .before .record3 .given .1)) (rw (c .before .before .before .before .before .before .before .on-actuator-ack .ensures) at (c .before .before .before .before .enum-told3 .given .1)))
+    (c .before .before .print-flag4 .ensures)
+    (c .before .before .print-flag4 .kept .1 .0) (bytes-room b))
+
+enum-known-outcome : tie.Need-enum-known-outcome Inv-loop μ-loop
+enum-known-outcome c = search needs
+
+booked-requires : tie.Need-booked-requires Inv-loop μ-loop
+booked-requires c κs = search needs
+
+delivered-text-requires : tie.Need-delivered-text-requires Inv-loop μ-loop
+delivered-text-requires c κs = search needs
+
+print-text-requires-2 : tie.Need-print-text-requires-2 Inv-loop μ-loop
+print-text-requires-2 c κs = (delivered-fits _ (c .before .delivered-text .ensures .0), room (c .before .before .before .before .before .before .before .before .before .before .before .before .before .before .before .before .before .before .before .before .before .before .before .before .before .before .before .before))
+
+loop-less-8 : tie.Need-loop-less-8 Inv-loop μ-loop
+loop-less-8 c = less (c .before .before .before .before .before .before .before .before .before .before .before .before .before .before .before .before .before .before) (taken (c .before .before .before .before .before .before .before .before .before .before .before .before .before .before .before))
+
+loop-again-8 : tie.Need-loop-again-8 Inv-loop μ-loop
+loop-again-8 c =
+    let t = c .before .before .before .before .before .before .before .before .before .before .before .before .before .before .before in
+    let b = t .before .before .before in
+    let l = turn b .before .before .loop in
+    rw (c .before .before .before .before .before .before .before .before .before .before .before .on-actuator-ack .ensures, c .before .before .before .before .before .before .booked .ensures)
+    (feeding-record (l .inv) (roomy (turn b)) (taken t)
+    (answers-acked (was (turn b)) (heard (turn b)) _ _ (takes t _ (c .before .before .before .before .before .before .before .before .before .before .before .before .before .record3 .given .1)) _ (rw (c .before .before .before .before .before .before .before .before .before .before .before .on-actuator-ack .ensures) at (c .before .before .before .before .before .before .before .before .outcome .given .1)))
+    (rw (c .before .before .before .before .delivered-text .ensures .1, c .before .before .before .before .before .before .booked .ensures) at (c .before .before .print-text2 .ensures))
+    (c .before .before .print-text2 .kept .1 .0) (bytes-room b))
+
+enum-known-record-4 : tie.Need-enum-known-record-4 Inv-loop μ-loop
+enum-known-record-4 c = search needs
+
+poll-timeout-requires : tie.Need-poll-timeout-requires Inv-loop μ-loop
+poll-timeout-requires c κs = search needs
+
+timeout-text-requires : tie.Need-timeout-text-requires Inv-loop μ-loop
+timeout-text-requires c κs = search needs
+
+print-text-requires-3 : tie.Need-print-text-requires-3 Inv-loop μ-loop
+print-text-requires-3 c κs = (answer-fits _ (c .before .timeout-text .ensures .0), room (c .before .before .before .before .before .before .before .before .before .before .before .before .before .before .before .before .before .before .before .before .before .before .before))
+
+loop-less-9 : tie.Need-loop-less-9 Inv-loop μ-loop
+loop-less-9 c = less (c .before .before .before .before .before .before .before .before .before .before .before .before .before) (taken (c .before .before .before .before .before .before .before .before .before .before))
+
+loop-again-9 : tie.Need-loop-again-9 Inv-loop μ-loop
+loop-again-9 c =
+    let t = c .before .before .before .before .before .before .before .before .before .before in
+    let b = t .before .before .before in
+    let l = turn b .before .before .loop in
+    rw (c .before .before .before .before .before .before .poll-timeout .ensures)
+    (feeding-record (l .inv) (roomy (turn b)) (taken t)
+    (answers-polled (was (turn b)) (heard (turn b)) _ (takes t _ (c .before .before .before .before .before .before .before .before .record4 .given .1)))
+    (rw (c .before .before .before .before .timeout-text .ensures .1, c .before .before .before .before .before .before .poll-timeout .ensures) at (c .before .before .print-text3 .ensures))
+    (c .before .before .print-text3 .kept .1 .0) (bytes-room b))
+
+enum-known-record-5 : tie.Need-enum-known-record-5 Inv-loop μ-loop
+enum-known-record-5 c = search needs
+
+push-wire-byte-requires : tie.Need-push-wire-byte-requires Inv-loop μ-loop
+push-wire-byte-requires c κs = search needs
+
+enum-told-4 : tie.Need-enum-told-4 Inv-loop μ-loop
+enum-told-4 c = search needs
+
+print-flag-requires-5 : tie.Need-print-flag-requires-5 Inv-loop μ-loop
+print-flag-requires-5 c κs = room (c .before .before .before .before .before .before .before .before .before .before .before .before .before .before .before .before .before .before .before .before .before .before .before .before)
+
+loop-less-10 : tie.Need-loop-less-10 Inv-loop μ-loop
+loop-less-10 c = less (c .before .before .before .before .before .before .before .before .before .before .before .before .before .before) (taken (c .before .before .before .before .before .before .before .before .before .before .before))
+
+loop-again-10 : tie.Need-loop-again-10 Inv-loop μ-loop
+loop-again-10 c =
+    let t = c .before .before .before .before .before .before .before .before .before .before .before in
+    let b = t .before .before .before in
+    let l = turn b .before .before .loop in
+    rw (c .before .before .before .before .before .before .before .push-wire-byte .ensures)
+    (feeding-record (l .inv) (roomy (turn b)) (taken t)
+    (answers-none (was (turn b)) (heard (turn b)) _ _ (takes t _ (c .before .before .before .before .before .before .before .before .before .record5 .given .1)) (rw (c .before .before .before .before .before .before .before .push-wire-byte .ensures) at (c .before .before .before .before .enum-told4 .given .1)))
+    (c .before .before .print-flag5 .ensures)
+    (c .before .before .print-flag5 .kept .1 .0) (bytes-room b))
+
+enum-known-update : tie.Need-enum-known-update Inv-loop μ-loop
+enum-known-update c = search needs
+
+booked-requires-2 : tie.Need-booked-requires-2 Inv-loop μ-loop
+booked-requires-2 c κs = search needs
+
+delivered-text-requires-2 : tie.Need-delivered-text-requires-2 Inv-loop μ-loop
+delivered-text-requires-2 c κs = search needs
+
+print-text-requires-4 : tie.Need-print-text-requires-4 Inv-loop μ-loop
+print-text-requires-4 c κs = (delivered-fits _ (c .before .delivered-text2 .ensures .0), room (c .before .before .before .before .before .before .before .before .before .before .before .before .before .before .before .before .before .before .before .before .before .before .before .before .before .before .before .before))
+
+loop-less-11 : tie.Need-loop-less-11 Inv-loop μ-loop
+loop-less-11 c = less (c .before .before .before .before .before .before .before .before .before .before .before .before .before .before .before .before .before .before) (taken (c .before .before .before .before .before .before .before .before .before .before .before .before .before .before .before))
+
+loop-again-11 : tie.Need-loop-again-11 Inv-loop μ-loop
+loop-again-11 c =
+    let t = c .before .before .before .before .before .before .before .before .before .before .before .before .before .before .before in
+    let b = t .before .before .before in
+    let l = turn b .before .before .loop in
+    rw (c .before .before .before .before .before .before .before .before .before .before .before .push-wire-byte .ensures, c .before .before .before .before .before .before .booked2 .ensures)
+    (feeding-record (l .inv) (roomy (turn b)) (taken t)
+    (answers-heard (was (turn b)) (heard (turn b)) _ _ (takes t _ (c .before .before .before .before .before .before .before .before .before .before .before .before .before .record5 .given .1)) _ (rw (c .before .before .before .before .before .before .before .before .before .before .before .push-wire-byte .ensures) at (c .before .before .before .before .before .before .before .before .update .given .1)))
+    (rw (c .before .before .before .before .delivered-text2 .ensures .1, c .before .before .before .before .before .before .booked2 .ensures) at (c .before .before .print-text4 .ensures))
+    (c .before .before .print-text4 .kept .1 .0) (bytes-room b))
+
+step-requires : tie.Need-step-requires Inv-loop μ-loop
+step-requires c κs = search needs
+
+answer-text-requires : tie.Need-answer-text-requires Inv-loop μ-loop
+answer-text-requires c κs = search needs
+
+print-text-requires-5 : tie.Need-print-text-requires-5 Inv-loop μ-loop
+print-text-requires-5 c κs = (answer-fits _ (c .before .answer-text .ensures .0), room (c .before .before .before .before .before .before .before .before .before .before .before .before .before .before .before .before .before .before .before .before .before .before .before))
+
+loop-less-12 : tie.Need-loop-less-12 Inv-loop μ-loop
+loop-less-12 c = less (c .before .before .before .before .before .before .before .before .before .before .before .before .before) (taken (c .before .before .before .before .before .before .before .before .before .before))
+
+loop-again-12 : tie.Need-loop-again-12 Inv-loop μ-loop
+loop-again-12 c =
+    let t = c .before .before .before .before .before .before .before .before .before .before in
+    let b = t .before .before .before in
+    let l = turn b .before .before .loop in
+    (feeding-record (l .inv) (roomy (turn b)) (taken t)
+    (answers-step (was (turn b)) (heard (turn b)) _ _ (taken t .admitted) (c .before .before .before .before .before .before .before .before .step .ensures))
+    (rw (c .before .before .before .before .answer-text .ensures .1) at (c .before .before .print-text5 .ensures))
+    (c .before .before .print-text5 .kept .1 .0) (bytes-room b))
+
+same-length : tie.Need-same-length Inv-loop μ-loop
+same-length c = search needs
+
+returns : tie.Need-returns Inv-loop μ-loop
+returns c =
+    let l = c .before .loop in
+    rw (held (c .before .before)) (fed-end (l .inv) (omega arith))
 
 same-length-2 : tie.Need-same-length-2 Inv-loop μ-loop
 same-length-2 c = search needs
 
 returns-2 : tie.Need-returns-2 Inv-loop μ-loop
 returns-2 c =
-    let l = c .before .before .before .before .before .before .before .before .before .before .before .before .before .before .before .before .before
-    .before .loop in
-    let k = c .before .before .before .before .before .next-line in
-    let begun = rw (c .before .found .given .1, part-left _ (l .used)) at (k .ensures) in
-    rw (held
-    (c .before .before .before .before .before .before .before .before .before .before .before .before .before .before .before .before .before
-    .before .before)) (fed-open (l .inv) (omega arith) _ _ (k .last .1 .1 .1 .1 .0) begun)
-
-enum-known-found-2 : tie.Need-enum-known-found-2 Inv-loop μ-loop
-enum-known-found-2 c = search needs
-
-add-used-3 : tie.Need-add-used-3 Inv-loop μ-loop
-add-used-3 c =
-    omega (
-      arith,
-      c .before .before .before .before .before .before .before .before .before .before .before .before .before .before .before .before .before .before
-          .before .before .before .before .before .before .before .before .before .good,
-      goes c,
-    )
-
-slice-aggregate-admit-line : tie.Need-slice-aggregate-admit-line Inv-loop μ-loop
-slice-aggregate-admit-line c = search needs
-
-admit-line-requires : tie.Need-admit-line-requires Inv-loop μ-loop
-admit-line-requires c κs = omega (
-  arith,
-  found (c .before) .3,
-  c .before .before .before .before .before .before .next-line .kept .1 .1 .1 .1 .0,
-  c .before .before .before .before .before .before .before .before .before .before .before .before .before .before .before .before .before .before
-      .before .loop .inv .room,
-)
-
-enum-known-admission : tie.Need-enum-known-admission Inv-loop μ-loop
-enum-known-admission c = search needs
-
-print-refusal-requires : tie.Need-print-refusal-requires Inv-loop μ-loop
-print-refusal-requires c κs =
-    omega (
-      arith,
-      c .before .before .before .before .before .before .before .before .before .before .before .before .before .before .before .before .before .before
-          .before .before .before .before .before .before .loop .inv .long,
-      c .before .before .before .before .before .before .before .before .before .before .before .before .before .before .before .before .before .before
-          .before .before .before .before .if1 .left,
-    )
-
-loop-less-2 : tie.Need-loop-less-2 Inv-loop μ-loop
-loop-less-2 c = omega (
-  arith,
-  found (c .before .before .before .before .before .before .before .before .before) .1,
-  goes (c .before .before .before .before .before .before .before .before .before),
-)
-
-loop-again-2 : tie.Need-loop-again-2 Inv-loop μ-loop
-loop-again-2 c =
-    let t = c .before .before .before .before .before .before .before .before .before in
-    let l = t .before .before .before .before .before .before .before .before .before .before .before .before .before .before .before .before .before
-    .before .loop in
-    let k = t .before .before .before .before .before .next-line in
-    let said = answers-refused (was t) (heard-line t) _ (sym (c .before .before .before .before .before .before .before .admit-line .ensures)
-    ∙ ap admitted (c .before .before .before .before .before .admission .given .1)) in
-    (feeding-line (l .inv) (omega (
-      arith,
-      l .inv .long,
-      t .before .before .before .before .before .before .before .before .before .before .before .before .before .before .before .before .if1 .left,
-    ))
-    (heard-line t) (t .before .found2 .given .0 .1 .0) (found t .0) (found t .1) (found t .2) _ _ said _ _
-    (c .before .before .print-refusal .ensures)
-    (k .last .1 .1 .0) (k .last .1 .1 .1 .1 .0) (found t .4) (k .kept .1 .1 .1 .1 .0 ∙ l .inv .room) (c .before .before .print-refusal .kept .1 .0))
-
-enum-known-admission-2 : tie.Need-enum-known-admission-2 Inv-loop μ-loop
-enum-known-admission-2 c = search needs
-
-manage-requires : tie.Need-manage-requires Inv-loop μ-loop
-manage-requires c κs = search needs
-
-enum-known-left : tie.Need-enum-known-left Inv-loop μ-loop
-enum-known-left c = search needs
-
-print-answer-requires : tie.Need-print-answer-requires Inv-loop μ-loop
-print-answer-requires c κs =
-    omega (
-      arith,
-      c .before .before .before .before .before .before .before .before .before .before .before .before .before .before .before .before .before .before
-          .before .before .before .before .before .before .before .before .before .before .before .loop .inv .long,
-      c .before .before .before .before .before .before .before .before .before .before .before .before .before .before .before .before .before .before
-          .before .before .before .before .before .before .before .before .before .if1 .left,
-    )
-
-loop-less-3 : tie.Need-loop-less-3 Inv-loop μ-loop
-loop-less-3 c =
-    omega (
-      arith,
-      found (c .before .before .before .before .before .before .before .before .before .before .before .before .before .before) .1,
-      goes (c .before .before .before .before .before .before .before .before .before .before .before .before .before .before),
-    )
-
-loop-again-3 : tie.Need-loop-again-3 Inv-loop μ-loop
-loop-again-3 c =
-    let t = c .before .before .before .before .before .before .before .before .before .before .before .before .before .before in
-    let l = t .before .before .before .before .before .before .before .before .before .before .before .before .before .before .before .before .before
-    .before .loop in
-    let k = t .before .before .before .before .before .next-line in
-    let m = c .before .before .before .before .before .before .before .before .manage in
-    let said = answers-answered (was t) (heard-line t) _
-    (sym (c .before .before .before .before .before .before .before .before .before .before .before .before .admit-line .ensures)
-    ∙ ap admitted (c .before .before .before .before .before .before .before .before .before .before .admission2 .given .1)) _
-    (rw (m .ensures) at (c .before .before .before .before .before .left .given .1)) in
-    rw (m .ensures)
-    (feeding-line (l .inv) (omega (
-      arith,
-      l .inv .long,
-      t .before .before .before .before .before .before .before .before .before .before .before .before .before .before .before .before .if1 .left,
-    ))
-    (heard-line t) (t .before .found2 .given .0 .1 .0) (found t .0) (found t .1) (found t .2) _ _ said _ _
-    (c .before .before .print-answer .ensures)
-    (k .last .1 .1 .0) (k .last .1 .1 .1 .1 .0) (found t .4) (k .kept .1 .1 .1 .1 .0 ∙ l .inv .room) (c .before .before .print-answer .kept .1 .0))
-
-enum-known-left-2 : tie.Need-enum-known-left-2 Inv-loop μ-loop
-enum-known-left-2 c = search needs
-
-entered-requires : tie.Need-entered-requires Inv-loop μ-loop
-entered-requires c κs = search needs
-
-print-answer-requires-2 : tie.Need-print-answer-requires-2 Inv-loop μ-loop
-print-answer-requires-2 c κs =
-    omega (
-      arith,
-      c .before .before .before .before .before .before .before .before .before .before .before .before .before .before .before .before .before .before
-          .before .before .before .before .before .before .before .before .before .before .before .before .before .loop .inv .long,
-      c .before .before .before .before .before .before .before .before .before .before .before .before .before .before .before .before .before .before
-          .before .before .before .before .before .before .before .before .before .before .before .if1 .left,
-    )
-
-loop-less-4 : tie.Need-loop-less-4 Inv-loop μ-loop
-loop-less-4 c =
-    omega (
-      arith,
-      found (c .before .before .before .before .before .before .before .before .before .before .before .before .before .before .before .before) .1,
-      goes (c .before .before .before .before .before .before .before .before .before .before .before .before .before .before .before .before),
-    )
-
-loop-again-4 : tie.Need-loop-again-4 Inv-loop μ-loop
-loop-again-4 c =
-    let t = c .before .before .before .before .before .before .before .before .before .before .before .before .before .before .before .before in
-    let l = t .before .before .before .before .before .before .before .before .before .before .before .before .before .before .before .before .before
-    .before .loop in
-    let k = t .before .before .before .before .before .next-line in
-    let m = c .before .before .before .before .before .before .before .before .before .before .manage in
-    let n = c .before .before .before .before .before .entered in
-    let said = answers-entered (was t) (heard-line t) _
-    (sym (c .before .before .before .before .before .before .before .before .before .before .before .before .before .before .admit-line .ensures)
-    ∙ ap admitted (c .before .before .before .before .before .before .before .before .before .before .before .before .admission2 .given .1)) _
-    (rw (m .ensures) at (c .before .before .before .before .before .before .before .left2 .given .1)) in
-    rw (n .ensures, m .ensures)
-    (feeding-line (l .inv) (omega (
-      arith,
-      l .inv .long,
-      t .before .before .before .before .before .before .before .before .before .before .before .before .before .before .before .before .if1 .left,
-    ))
-    (heard-line t) (t .before .found2 .given .0 .1 .0) (found t .0) (found t .1) (found t .2) _ _ said _ _
-    (rw (n .ensures) at (c .before .before .print-answer2 .ensures))
-    (k .last .1 .1 .0) (k .last .1 .1 .1 .1 .0) (found t .4) (k .kept .1 .1 .1 .1 .0 ∙ l .inv .room) (c .before .before .print-answer2 .kept .1 .0))
-
-same-length-3 : tie.Need-same-length-3 Inv-loop μ-loop
-same-length-3 c = search needs
-
-returns-3 : tie.Need-returns-3 Inv-loop μ-loop
-returns-3 c =
-    let l = c .before .loop in
-    rw (held (c .before .before)) (fed-end (l .inv) (omega arith))
+    let l = c .before .before .loop in
+    rw (held (c .before .before .before)) (fed-stop (l .inv) (omega arith))
 
 pub feed-spec : {M : Type 1} → statement M
 feed-spec =
@@ -391,8 +482,6 @@ feed-spec =
     at-most-held-requires
     loop-holds
     sub-if1
-    same-length
-    returns
     sub-collected-byte
     part-collected-byte-start
     part-collected-byte-end
@@ -400,39 +489,79 @@ feed-spec =
     enum-known-byte
     collected-requires
     heard-requires
-    print-nothing-requires
+    print-flag-requires
     add-used
     add-used-2
     loop-less
     loop-again
     enum-told
-    sub-next-line
-    part-next-line-start
-    part-next-line-end
-    slice-aggregate-next-line
-    slice-aggregate-next-line-2
-    next-line-requires
+    sub-next-record
+    part-next-record-start
+    part-next-record-end
+    slice-aggregate-next-record
+    slice-aggregate-next-record-2
+    next-record-requires
     enum-known-found
-    same-length-2
-    returns-2
-    enum-known-found-2
-    add-used-3
-    slice-aggregate-admit-line
-    admit-line-requires
-    enum-known-admission
-    print-refusal-requires
     loop-less-2
     loop-again-2
-    enum-known-admission-2
-    manage-requires
-    enum-known-left
-    print-answer-requires
+    enum-known-found-2
+    add-used-3
+    print-refusal-requires
     loop-less-3
     loop-again-3
-    enum-known-left-2
-    entered-requires
-    print-answer-requires-2
+    enum-known-found-3
+    add-used-4
+    enum-known-record
+    next-request-requires
+    next-text-requires
+    print-text-requires
     loop-less-4
     loop-again-4
-    same-length-3
-    returns-3)
+    enum-known-record-2
+    mark-request-queued-requires
+    print-flag-requires-2
+    loop-less-5
+    loop-again-5
+    enum-known-record-3
+    on-actuator-ack-requires
+    enum-told-2
+    print-flag-requires-3
+    loop-less-6
+    loop-again-6
+    enum-told-3
+    print-flag-requires-4
+    loop-less-7
+    loop-again-7
+    enum-known-outcome
+    booked-requires
+    delivered-text-requires
+    print-text-requires-2
+    loop-less-8
+    loop-again-8
+    enum-known-record-4
+    poll-timeout-requires
+    timeout-text-requires
+    print-text-requires-3
+    loop-less-9
+    loop-again-9
+    enum-known-record-5
+    push-wire-byte-requires
+    enum-told-4
+    print-flag-requires-5
+    loop-less-10
+    loop-again-10
+    enum-known-update
+    booked-requires-2
+    delivered-text-requires-2
+    print-text-requires-4
+    loop-less-11
+    loop-again-11
+    step-requires
+    answer-text-requires
+    print-text-requires-5
+    loop-less-12
+    loop-again-12
+    same-length
+    returns
+    same-length-2
+    returns-2)
