@@ -5,7 +5,7 @@ use Prim.Native.Nat.{ℕ}
 use Rattle.esc_feedback.specs.Ack.{onAck}
 use Rattle.esc_feedback.specs.Wire.{pushWire}
 use Rattle.esc_feedback.specs.Recovery.{tryRecover}
-use Rattle.esc_feedback.specs.declared.request.EscActuatorAck.{EscActuatorAck}
+use Rattle.esc_lanes.specs.declared.request.EscActuatorAck.{EscActuatorAck}
 use Rattle.esc_feedback.specs.declared.answer.EscAckOutcome.{EscAckOutcome}
 use Rattle.esc_feedback.specs.declared.answer.EscAckOutcome.the-variants as outcome
 use Rattle.esc_feedback.specs.declared.answer.WireUpdate.{WireUpdate}

@@ -2,9 +2,9 @@
 ghost use mathlib.Core.Path.{_≡_};
 ghost use Rattle.esc_unit.specs.Entry.{enteredIn};
 use crate::books::Books;
-use esc_feedback::EscOutput;
-use esc_feedback::EscTelemetryUpdate;
 use esc_idle::EscIdleQualificationConfig;
+use esc_lanes::EscOutput;
+use esc_lanes::EscTelemetryUpdate;
 use esc_records::AckAnswer;
 use esc_records::Answer;
 use esc_records::Delivered;
