@@ -8,7 +8,7 @@ use Rattle.esc_unit.specs.declared.unit.Unit.{Unit}
 use Rattle.booking.specs.History.{History, since}
 use Rattle.booking.specs.Rule.{ruleFor}
 use Rattle.booking.proofs.Traced.{Fits, called}
-use Rattle.unit_text.specs.Line.{readLine}
+use Rattle.hex_lines.specs.Line.{readLine}
 use Rattle.unit_text.specs.Session.{linesOf, longestAnswer, answerOn, answerLine, unitAfter, lineText, linesText, sessionText}
 use Rattle.unit_text.specs.Traced.{ruled, historyAfter, linesTraced, tracedText}
 

@@ -5,15 +5,15 @@ ghost use Prim.Native.Nat.{_+_, _≤_};
 ghost use lib.ListN.{length};
 ghost use Rattle.esc_unit.specs.Admission.{admitted};
 ghost use Rattle.esc_records.specs.Answer.{answerBytes};
-ghost use Rattle.unit_text.specs.Line.{lineRead, recordLength};
+ghost use Rattle.hex_lines.specs.Line.{lineRead, recordLength};
 ghost use Rattle.unit_text.specs.Answering.{admittedBy, PrintedAt};
 ghost use Rattle.unit_text.specs.Stream.{longestLine};
-use crate::line::LineRead;
-use crate::line::print_line;
 use esc_records::Answer;
 use esc_records::answer_text;
 use esc_unit::Admitted;
 use esc_unit::admit;
+use hex_lines::line::LineRead;
+use hex_lines::line::print_line;
 
 // The record that a line stands for, in front of `bytes`, if a unit that was opened, or was not, takes it.
 pub(crate) fn admit_line(opened: bool, read: LineRead, bytes: &[u8]) -> Admitted

@@ -10,11 +10,11 @@ use lib.ListN.{length, take, drop}
 use Rattle.base.specs.Reply.{Reply}
 use Rattle.esc_unit.specs.Admission.{admitted}
 use Rattle.esc_unit.specs.declared.unit.Unit.{Unit}
-use Rattle.unit_text.specs.Line.{readLine, lineRead}
-use Rattle.unit_text.specs.NextLine.{firstLine, NextFrom}
+use Rattle.hex_lines.specs.Line.{readLine, lineRead}
+use Rattle.hex_lines.specs.NextLine.{firstLine, NextFrom}
 use Rattle.unit_text.specs.Answering.{admittedBy}
 use Rattle.unit_text.specs.WireLine.{CollectedAt}
-use Rattle.unit_text.specs.declared.next_line.NextLine.the-variants.{Ended}
+use Rattle.hex_lines.specs.declared.next_line.NextLine.the-variants.{Ended}
 use Rattle.unit_text.proofs.AnswersLaws.{answers-refused, answers-collected, answers-answered, answers-entered}
 use Rattle.unit_text.proofs.Feeding.{Feeding, feeding-none, held-line, part-left, fed-stop, fed-end, fed-open, feeding-line, goes-on}
 use Rattle.unit_text.proofs.stream.Stream.feed.Statement.{statement}
