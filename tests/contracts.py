@@ -3,7 +3,9 @@
 
 Every public function has a comment that says what it is for. In a library it asks nothing by a `requires`, and
 states its result by an equation and what each lent buffer holds afterwards by another; only the capture search's
-choice is free. Every file of specs/ and proofs/ opens with a comment that says what it is or why it is true.
+choice is free. A crate that is a part of another is that one's alone: no third crate's code names it, and its functions
+may ask what each call of them proves. Every file of specs/ and proofs/ opens with a comment that says what it is or why
+it is true.
 """
 import re
 import sys
@@ -13,6 +15,8 @@ CRATES = Path(__file__).resolve().parent.parent / "crates"
 CLAUSE = re.compile(r"^\s*ensures(?: \w+)? \{ λ (\w+)\. (.*) \}$", re.M)
 # what a definition of specs/ says of the result where no equation could
 FREE = {"find_frame": "Searched"}
+# a crate that is a part of another
+PARTS = {"hex_lines": "unit_text"}
 
 
 def functions(path):
@@ -52,15 +56,23 @@ def purposes(path):
             yield f"{path}: pub fn {name} has no comment"
 
 
+def strangers(path):
+    """Code that names a part of another crate."""
+    crate = path.relative_to(CRATES).parts[0]
+    for part, whole in PARTS.items():
+        if crate not in (part, whole) and re.search(rf"\b{part}::", path.read_text()):
+            yield f"{path}: {part} is for {whole} alone"
+
+
 def openings(path):
     if not path.read_text().startswith("-- "):
         yield f"{path}: no comment at its top"
 
 
 def main():
-    libraries = [crate for crate in CRATES.iterdir() if not (crate / "src/main.rt").exists()]
+    libraries = [crate for crate in CRATES.iterdir() if crate.name not in PARTS and not (crate / "src/main.rt").exists()]
     faults = [fault for crate in libraries for path in crate.glob("src/**/*.rt") for fault in contracts(path)]
-    faults += [fault for path in CRATES.glob("*/src/**/*.rt") for fault in purposes(path)]
+    faults += [fault for path in CRATES.glob("*/src/**/*.rt") for fault in [*purposes(path), *strangers(path)]]
     faults += [fault for path in CRATES.glob("*/*/**/*.antt") for fault in openings(path)]
     for fault in sorted(faults):
         print(fault)

@@ -7,9 +7,9 @@ use native.Mathlib.Omega.{arith}
 use borrow.Author.Tests.{eq-eqb}
 use Rattle.base.specs.Choice.{pick}
 use Rattle.base.specs.Reply.{accepted, isAccepted}
-use Rattle.esc_feedback.specs.declared.output.Lane.{Lane}
-use Rattle.esc_feedback.specs.declared.output.Lane.the-variants.{Output1, Output2, Output3, Output4}
-use Rattle.esc_feedback.specs.declared.output.EscOutput.{EscOutput}
+use Rattle.esc_lanes.specs.declared.output.Lane.{Lane}
+use Rattle.esc_lanes.specs.declared.output.Lane.the-variants.{Output1, Output2, Output3, Output4}
+use Rattle.esc_lanes.specs.declared.output.EscOutput.{EscOutput}
 use Rattle.airframe.specs.Motor.{motorNumber, sameMotor}
 use Rattle.airframe.specs.Once.{oneFor, times, eachOnce}
 use Rattle.airframe.specs.BoardMap.{onLane, motorOn, outputWith, readMap}

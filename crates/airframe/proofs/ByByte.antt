@@ -1,10 +1,10 @@
 -- A lane's or a motor's number, converted, gives what the lane or the motor gives: each number reads as its own.
 use mathlib.Core.Path.{_≡_, refl, ap}
 use Rattle.base.specs.Reply.{accepted}
-use Rattle.esc_feedback.specs.Output.{laneNumber, laneOf}
-use Rattle.esc_feedback.specs.declared.output.Lane.{Lane}
-use Rattle.esc_feedback.specs.declared.output.Lane.the-variants.{Output1, Output2, Output3, Output4}
-use Rattle.esc_feedback.specs.declared.output.EscOutput.{EscOutput}
+use Rattle.esc_lanes.specs.Output.{laneNumber, laneOf}
+use Rattle.esc_lanes.specs.declared.output.Lane.{Lane}
+use Rattle.esc_lanes.specs.declared.output.Lane.the-variants.{Output1, Output2, Output3, Output4}
+use Rattle.esc_lanes.specs.declared.output.EscOutput.{EscOutput}
 use Rattle.airframe.specs.Motor.{digit, motorNumber, motorOf, readMotor}
 use Rattle.airframe.specs.Lane.{readLane}
 use Rattle.airframe.specs.BoardMap.{motorOn, outputWith, converted, motorOnByte, outputWithByte}

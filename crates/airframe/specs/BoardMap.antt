@@ -5,9 +5,9 @@ use lib.Dec.{eqb}
 use lib.ListN.{length, getD}
 use Rattle.base.specs.Choice.{pick}
 use Rattle.base.specs.Reply.{Reply, accepted, refused}
-use Rattle.esc_feedback.specs.declared.output.Lane.{Lane}
-use Rattle.esc_feedback.specs.declared.output.Lane.the-variants.{Output1, Output2, Output3, Output4}
-use Rattle.esc_feedback.specs.declared.output.EscOutput.{EscOutput}
+use Rattle.esc_lanes.specs.declared.output.Lane.{Lane}
+use Rattle.esc_lanes.specs.declared.output.Lane.the-variants.{Output1, Output2, Output3, Output4}
+use Rattle.esc_lanes.specs.declared.output.EscOutput.{EscOutput}
 use Rattle.airframe.specs.Motor.{sameMotor, motorOf, readMotor}
 use Rattle.airframe.specs.Lane.{readLane}
 use Rattle.airframe.specs.Once.{eachOnce}

@@ -3,8 +3,8 @@ use Prim.Native.Nat.{ℕ}
 use lib.Dec.{leb}
 use Rattle.base.specs.Choice.{pick}
 use Rattle.base.specs.Reply.{Reply, accepted, refused}
-use Rattle.esc_feedback.specs.Output.{outputAt}
-use Rattle.esc_feedback.specs.declared.output.EscOutput.{EscOutput}
+use Rattle.esc_lanes.specs.Output.{outputAt}
+use Rattle.esc_lanes.specs.declared.output.EscOutput.{EscOutput}
 use Rattle.airframe.specs.declared.lane.OutputRead.{OutputRead}
 use Rattle.airframe.specs.declared.lane.OutputRead.the-variants as read
 

@@ -12,8 +12,8 @@ use crate::motor::Motor;
 use crate::motor::MotorRead;
 use crate::motor::motor_of;
 use crate::once::each_once;
-use esc_feedback::EscOutput;
-use esc_feedback::Lane;
+use esc_lanes::EscOutput;
+use esc_lanes::Lane;
 
 // The motor on each output.
 pub struct BoardMap {

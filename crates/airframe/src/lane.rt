@@ -1,7 +1,7 @@
 // An output lane from a byte, 0 to 3.
 ghost use mathlib.Core.Path.{_≡_};
 ghost use Rattle.airframe.specs.Lane.{readLane, outputRead};
-use esc_feedback::EscOutput;
+use esc_lanes::EscOutput;
 
 pub enum OutputRead {
     Output(EscOutput),

@@ -11,7 +11,7 @@ use borrow.Author.Tests.{eq-eqb}
 use Rattle.blheli_telemetry.specs.Crc.{crcOf}
 use Rattle.blheli_telemetry.specs.Frame.{telemetryOf}
 use Rattle.base.proofs.ByCases.{below-or-not}
-use Rattle.esc_feedback.specs.declared.request.EscActuatorRequest.{EscActuatorRequest}
+use Rattle.esc_lanes.specs.declared.request.EscActuatorRequest.{EscActuatorRequest}
 use Rattle.booking.specs.History.{Byte}
 use Rattle.booking.specs.Wire.{Frame}
 use Rattle.booking.specs.Booking.{booked}

@@ -8,9 +8,9 @@ use lib.Dec.{eqb}
 use lib.ListN.{length, replicate}
 use Rattle.base.specs.Choice.{pick}
 use Rattle.base.specs.BigEndian.{bytesOf}
-use Rattle.esc_feedback.specs.Output.{laneOf}
-use Rattle.esc_feedback.specs.declared.request.EscActuatorRequest.{EscActuatorRequest}
-use Rattle.esc_feedback.specs.declared.request.EscTelemetryUpdate.{EscTelemetryUpdate}
+use Rattle.esc_lanes.specs.Output.{laneOf}
+use Rattle.esc_lanes.specs.declared.request.EscActuatorRequest.{EscActuatorRequest}
+use Rattle.esc_lanes.specs.declared.request.EscTelemetryUpdate.{EscTelemetryUpdate}
 use Rattle.booking.specs.History.{Byte}
 use Rattle.booking.proofs.Session.{roomy}
 use Rattle.attribution.specs.Marks.{Marked, MarkedHistory, Log, logOf, logAfter}

@@ -4,7 +4,7 @@ use mathlib.Core.List.{_∷_}
 use Prim.Native.Nat.{ℕ}
 use lib.ListN.{length}
 use Rattle.blheli_telemetry.specs.Frame.{telemetryOf}
-use Rattle.esc_feedback.specs.declared.request.EscTelemetryUpdate.{EscTelemetryUpdate}
+use Rattle.esc_lanes.specs.declared.request.EscTelemetryUpdate.{EscTelemetryUpdate}
 use Rattle.attribution.specs.Marks.{Log, past, sinceIn}
 use Rattle.attribution.specs.Since.{takenSince, all}
 use Rattle.attribution.specs.Pace.{ticks}

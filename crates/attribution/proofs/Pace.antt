@@ -13,7 +13,7 @@ use Rattle.base.specs.Choice.{pick}
 use Rattle.base.proofs.ByCases.{below-or-not}
 use Rattle.base.specs.Due.{due}
 use Rattle.esc_feedback.specs.declared.config.EscManagerConfig.{EscManagerConfig}
-use Rattle.esc_feedback.specs.declared.request.EscActuatorRequest.{EscActuatorRequest}
+use Rattle.esc_lanes.specs.declared.request.EscActuatorRequest.{EscActuatorRequest}
 use Rattle.base.specs.Maybe.{is}
 use Rattle.booking.specs.History.{Opening, Byte, Since}
 use Rattle.booking.specs.Turns.{lastQueued}

@@ -13,8 +13,8 @@ use borrow.Author.Tests.{leb-true, leb-false, ltb-true, eqb-true, ne-eqb}
 use Rattle.base.specs.Choice.{pick}
 use Rattle.esc_feedback.specs.declared.config.EscManagerConfig.{EscManagerConfig}
 use Rattle.esc_feedback.specs.declared.answer.EscManagerTimeout.{EscManagerTimeout}
-use Rattle.esc_feedback.specs.declared.request.EscActuatorRequest.{EscActuatorRequest}
-use Rattle.esc_feedback.specs.declared.request.EscTelemetryUpdate.{EscTelemetryUpdate}
+use Rattle.esc_lanes.specs.declared.request.EscActuatorRequest.{EscActuatorRequest}
+use Rattle.esc_lanes.specs.declared.request.EscTelemetryUpdate.{EscTelemetryUpdate}
 use Rattle.booking.specs.History.{Opening, Byte, Past, Since}
 use Rattle.booking.specs.Faults.{faulted, quietSince, retries}
 use Rattle.booking.specs.Claims.{pastOf}

@@ -5,8 +5,8 @@ use mathlib.Core.List.{List, [], _∷_, _++_, map}
 use lib.ListN.{length}
 use Rattle.blheli_telemetry.specs.Crc.{crcOf}
 use Rattle.blheli_telemetry.specs.Frame.{telemetryOf}
-use Rattle.esc_feedback.specs.declared.request.EscActuatorRequest.{EscActuatorRequest}
-use Rattle.esc_feedback.specs.declared.request.EscTelemetryUpdate.{EscTelemetryUpdate}
+use Rattle.esc_lanes.specs.declared.request.EscActuatorRequest.{EscActuatorRequest}
+use Rattle.esc_lanes.specs.declared.request.EscTelemetryUpdate.{EscTelemetryUpdate}
 use Rattle.booking.specs.History.{Byte}
 use Rattle.booking.specs.Run.{run}
 use Rattle.attribution.specs.Marks.{Marked, callsOf, eventsOf, runMarked, Log}

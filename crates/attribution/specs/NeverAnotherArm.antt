@@ -7,8 +7,8 @@ use mathlib.Core.Option.{Option}
 use lib.Dec.{eqb}
 use lib.ListN.{length}
 use Rattle.blheli_telemetry.specs.Frame.{telemetryOf}
-use Rattle.esc_feedback.specs.declared.request.EscActuatorRequest.{EscActuatorRequest}
-use Rattle.esc_feedback.specs.declared.request.EscTelemetryUpdate.{EscTelemetryUpdate}
+use Rattle.esc_lanes.specs.declared.request.EscActuatorRequest.{EscActuatorRequest}
+use Rattle.esc_lanes.specs.declared.request.EscTelemetryUpdate.{EscTelemetryUpdate}
 use Rattle.booking.specs.FirstNine.{ofBytes}
 use Rattle.attribution.specs.Marks.{Marked, callsOf, Log}
 use Rattle.attribution.specs.Origin.{requests}

@@ -9,15 +9,15 @@ use lib.Dec.{eqb}
 use lib.ListN.{length}
 use borrow.Author.Tests.{ne-eqb, eqb-true}
 use Rattle.base.specs.Choice.{pick}
-use Rattle.esc_feedback.specs.Output.{laneOf, laneNumber}
-use Rattle.esc_feedback.specs.Samples.{slotOf, noSamples, storedIn, sampleAt}
-use Rattle.esc_feedback.specs.declared.output.Lane.{Lane}
-use Rattle.esc_feedback.specs.declared.output.EscOutput.{EscOutput}
-use Rattle.esc_feedback.specs.declared.request.EscTelemetryUpdate.{EscTelemetryUpdate}
-use Rattle.esc_feedback.specs.declared.samples.StoredObservation.{StoredObservation}
-use Rattle.esc_feedback.specs.declared.samples.StoredObservation.the-variants as held
-use Rattle.esc_feedback.specs.declared.samples.Slot.{Slot}
-use Rattle.esc_feedback.specs.declared.samples.EscSamples.{EscSamples}
+use Rattle.esc_lanes.specs.Output.{laneOf, laneNumber}
+use Rattle.esc_lanes.specs.Samples.{slotOf, noSamples, storedIn, sampleAt}
+use Rattle.esc_lanes.specs.declared.output.Lane.{Lane}
+use Rattle.esc_lanes.specs.declared.output.EscOutput.{EscOutput}
+use Rattle.esc_lanes.specs.declared.request.EscTelemetryUpdate.{EscTelemetryUpdate}
+use Rattle.esc_lanes.specs.declared.samples.StoredObservation.{StoredObservation}
+use Rattle.esc_lanes.specs.declared.samples.StoredObservation.the-variants as held
+use Rattle.esc_lanes.specs.declared.samples.Slot.{Slot}
+use Rattle.esc_lanes.specs.declared.samples.EscSamples.{EscSamples}
 use Rattle.esc_books.specs.Figures.{noFigure, withSample, figureAt, figuresWith}
 use Rattle.esc_books.specs.Books.{noBooks, checkedBy, samplesDropped, bookedIn, idleStatus, sampleOf, storedAt}
 use Rattle.esc_books.specs.declared.figures.Figures.{Figures}

@@ -11,9 +11,9 @@ use lib.Dec.{eqb, ltb}
 use lib.ListN.{length, take, length-append}
 use lib.Seq.{take-append-le}
 use Rattle.base.specs.Choice.{pick}
-use Rattle.esc_feedback.specs.Output.{laneOf, laneNumber}
-use Rattle.esc_feedback.specs.declared.output.Lane.{Lane}
-use Rattle.esc_feedback.specs.declared.request.EscTelemetryUpdate.{EscTelemetryUpdate}
+use Rattle.esc_lanes.specs.Output.{laneOf, laneNumber}
+use Rattle.esc_lanes.specs.declared.output.Lane.{Lane}
+use Rattle.esc_lanes.specs.declared.request.EscTelemetryUpdate.{EscTelemetryUpdate}
 use Rattle.esc_idle.specs.declared.idle_config.EscIdleQualificationConfig.{EscIdleQualificationConfig}
 use Rattle.base.specs.Maybe.{onlyIf}
 use Rattle.booking.specs.History.{Check}

@@ -9,8 +9,8 @@ use Rattle.base.specs.BigEndian.{bytesOf}
 use Rattle.blheli_telemetry.specs.Frame.{telemetryOf, payloadOf, frameOf}
 use Rattle.blheli_telemetry.proofs.FrameLaws.{read-good}
 use Rattle.blheli_telemetry.proofs.RoundTrip.{written-read}
-use Rattle.esc_feedback.specs.declared.request.EscActuatorRequest.{EscActuatorRequest}
-use Rattle.esc_feedback.specs.declared.request.EscTelemetryUpdate.{EscTelemetryUpdate}
+use Rattle.esc_lanes.specs.declared.request.EscActuatorRequest.{EscActuatorRequest}
+use Rattle.esc_lanes.specs.declared.request.EscTelemetryUpdate.{EscTelemetryUpdate}
 use Rattle.esc_feedback.specs.declared.answer.EscManagerTimeout.the-variants as timeout
 use Rattle.esc_records.specs.Answer.{sampleBytes, deliveredBytes, idleBytes, ackBytes, wireBytes, bodyBytes, answerBytes}
 use Rattle.esc_records.specs.declared.record.Record.{Record}

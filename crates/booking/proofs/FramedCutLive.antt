@@ -12,9 +12,9 @@ use Rattle.blheli_telemetry.specs.Parser.{shiftedDown, pushOf}
 use Rattle.blheli_telemetry.specs.declared.parser.Parsed.{Parsed}
 use Rattle.blheli_telemetry.specs.declared.parser.Parsed.the-variants.{Sample, Nothing}
 use Rattle.base.specs.Due.{due}
-use Rattle.esc_feedback.specs.Request.{sameRequest}
+use Rattle.esc_lanes.specs.Request.{sameRequest}
 use Rattle.esc_feedback.specs.Manager.{closedBySample}
-use Rattle.esc_feedback.specs.Fault.{afterHearing, quietWindow, mayRecover}
+use Rattle.esc_fault.specs.Fault.{afterHearing, quietWindow, mayRecover}
 use Rattle.esc_feedback.specs.Queueing.{requestExists, nextRequest, markQueued}
 use Rattle.esc_feedback.specs.Ack.{ackOn, onAck}
 use Rattle.esc_feedback.specs.Timeout.{polledOn, pollTimeout}

@@ -12,9 +12,9 @@ use Rattle.base.specs.Due.{due}
 use Rattle.esc_idle.specs.IdleConfig.{validSettings}
 use Rattle.esc_idle.specs.IdleLane.{clearLane, countLane, newestExpired, expireLane, expireLanes, everyEnough}
 use Rattle.esc_idle.specs.Idle.{newIdle, saying, decided, freshAt, weighed, statusOf, sampled, measured, observeOf}
-use Rattle.esc_feedback.specs.declared.output.Lane.{Lane}
-use Rattle.esc_feedback.specs.declared.output.Lane.the-variants.{Output1, Output2, Output3, Output4}
-use Rattle.esc_feedback.specs.declared.request.EscTelemetryUpdate.{EscTelemetryUpdate}
+use Rattle.esc_lanes.specs.declared.output.Lane.{Lane}
+use Rattle.esc_lanes.specs.declared.output.Lane.the-variants.{Output1, Output2, Output3, Output4}
+use Rattle.esc_lanes.specs.declared.request.EscTelemetryUpdate.{EscTelemetryUpdate}
 use Rattle.esc_idle.specs.declared.idle_config.EscIdleQualificationConfig.{EscIdleQualificationConfig}
 use Rattle.esc_idle.specs.declared.idle_lane.Newest.{Newest}
 use Rattle.esc_idle.specs.declared.idle_lane.Newest.the-variants as newest

@@ -6,9 +6,9 @@ use Prim.Native.Nat.{ℕ}
 use lib.Dec.{eqb}
 use lib.ListN.{getD, set}
 use Rattle.base.specs.Choice.{pick}
-use Rattle.esc_feedback.specs.Output.{laneNumber}
-use Rattle.esc_feedback.specs.declared.output.Lane.{Lane}
-use Rattle.esc_feedback.specs.declared.output.Lane.the-variants.{Output1, Output2, Output3, Output4}
+use Rattle.esc_lanes.specs.Output.{laneNumber}
+use Rattle.esc_lanes.specs.declared.output.Lane.{Lane}
+use Rattle.esc_lanes.specs.declared.output.Lane.the-variants.{Output1, Output2, Output3, Output4}
 
 abbrev pub four : {A : Type 0} → (Lane → A) → List A
 four f = f Output1 ∷ f Output2 ∷ f Output3 ∷ f Output4 ∷ []

@@ -11,8 +11,8 @@ use Rattle.base.specs.BigEndian.{numberAt, bytesOf}
 use Rattle.blheli_telemetry.specs.Crc.{crcBit, crcBits, crcByte, crcFrom, crcOf}
 use Rattle.blheli_telemetry.specs.Frame.{telemetryOf, payloadOf}
 use Rattle.base.specs.Due.{due}
-use Rattle.esc_feedback.specs.Output.{laneOf}
-use Rattle.esc_feedback.specs.declared.request.EscTelemetryUpdate.{EscTelemetryUpdate}
+use Rattle.esc_lanes.specs.Output.{laneOf}
+use Rattle.esc_lanes.specs.declared.request.EscTelemetryUpdate.{EscTelemetryUpdate}
 use Rattle.esc_feedback.specs.declared.stats.EscManagerStats.{EscManagerStats}
 use Rattle.esc_records.specs.Record.{recordOf, readRecord}
 use Rattle.esc_records.specs.Answer.{requestBytes, sampleBytes, deliveredBytes, failureBytes, idleBytes, nextBytes, ackBytes, wireBytes, timeoutBytes, bodyBytes, answerBytes, replyBytes}

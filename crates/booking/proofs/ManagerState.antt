@@ -13,14 +13,14 @@ use Rattle.blheli_telemetry.specs.Stream.{held}
 use Rattle.blheli_telemetry.specs.declared.parser.ParserStats.{ParserStats}
 use Rattle.blheli_telemetry.specs.declared.parser.StreamParser.{StreamParser}
 use Rattle.blheli_telemetry.proofs.StreamLaws.{given-by-held, held-by-held, counted-by-held, keeps-ten}
-use Rattle.esc_feedback.specs.Output.{laneOf}
-use Rattle.esc_feedback.specs.Request.{sameRequest}
+use Rattle.esc_lanes.specs.Output.{laneOf}
+use Rattle.esc_lanes.specs.Request.{sameRequest}
 use Rattle.esc_feedback.specs.Stats.{statsOf}
 use Rattle.esc_feedback.specs.Outstanding.{outstandingOf, noneOutstanding}
-use Rattle.esc_feedback.specs.Fault.{faultOf, afterHearing}
+use Rattle.esc_fault.specs.Fault.{faultOf, afterHearing}
 use Rattle.esc_feedback.specs.Manager.{managerOf, noted, newManager, closedBySample}
 use Rattle.esc_feedback.specs.declared.config.EscManagerConfig.{EscManagerConfig}
-use Rattle.esc_feedback.specs.declared.request.EscActuatorRequest.{EscActuatorRequest}
+use Rattle.esc_lanes.specs.declared.request.EscActuatorRequest.{EscActuatorRequest}
 use Rattle.esc_feedback.specs.declared.stats.EscManagerStats.{EscManagerStats}
 use Rattle.esc_feedback.specs.declared.turn.LastRequest.{LastRequest}
 use Rattle.esc_feedback.specs.declared.turn.LastRequest.the-variants as last

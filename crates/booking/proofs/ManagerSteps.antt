@@ -11,22 +11,22 @@ use Rattle.base.proofs.Both.{and-left, and-right}
 use Rattle.blheli_telemetry.specs.Parser.{pushOf, resetOf}
 use Rattle.blheli_telemetry.specs.declared.parser.StreamParser.{StreamParser}
 use Rattle.base.specs.Due.{due}
-use Rattle.esc_feedback.specs.Output.{laneOf, laneAfter}
+use Rattle.esc_lanes.specs.Output.{laneOf, laneAfter}
 use Rattle.esc_feedback.specs.Outstanding.{isOpen}
 use Rattle.esc_feedback.specs.Turn.{periodDue}
-use Rattle.esc_feedback.specs.declared.output.Lane.{Lane}
-use Rattle.esc_feedback.specs.declared.output.Lane.the-variants.{Output1, Output2, Output3, Output4}
+use Rattle.esc_lanes.specs.declared.output.Lane.{Lane}
+use Rattle.esc_lanes.specs.declared.output.Lane.the-variants.{Output1, Output2, Output3, Output4}
 use Rattle.esc_feedback.specs.declared.answer.NextRequest.the-variants as next
-use Rattle.esc_feedback.specs.Fault.{quietWindow, mayRecover}
+use Rattle.esc_fault.specs.Fault.{quietWindow, mayRecover}
 use Rattle.esc_feedback.specs.Manager.{takeBack}
 use Rattle.esc_feedback.specs.Queueing.{requestExists, nextRequest, markQueued}
 use Rattle.esc_feedback.specs.Ack.{ackOn, onAck}
 use Rattle.esc_feedback.specs.Timeout.{polledOn, pollTimeout}
 use Rattle.esc_feedback.specs.Wire.{framedOn, receivedOn, pushWire, cutWire, refreshed}
 use Rattle.esc_feedback.specs.Recovery.{recoveredManager, tryRecover}
-use Rattle.esc_feedback.specs.declared.request.EscActuatorRequest.{EscActuatorRequest}
-use Rattle.esc_feedback.specs.declared.request.EscActuatorAck.{EscActuatorAck}
-use Rattle.esc_feedback.specs.declared.request.EscTelemetryUpdate.{EscTelemetryUpdate}
+use Rattle.esc_lanes.specs.declared.request.EscActuatorRequest.{EscActuatorRequest}
+use Rattle.esc_lanes.specs.declared.request.EscActuatorAck.{EscActuatorAck}
+use Rattle.esc_lanes.specs.declared.request.EscTelemetryUpdate.{EscTelemetryUpdate}
 use Rattle.esc_feedback.specs.declared.answer.EscAckOutcome.{EscAckOutcome}
 use Rattle.esc_feedback.specs.declared.answer.EscAckOutcome.the-variants as outcome
 use Rattle.esc_feedback.specs.declared.answer.EscManagerTimeout.{EscManagerTimeout}

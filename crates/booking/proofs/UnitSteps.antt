@@ -8,9 +8,9 @@ use Rattle.base.specs.Choice.{pick}
 use Rattle.blheli_telemetry.specs.Parser.{pushOf, resetOf, newParser}
 use Rattle.blheli_telemetry.specs.declared.parser.StreamParser.{StreamParser}
 use Rattle.esc_feedback.specs.Manager.{newManager}
-use Rattle.esc_feedback.specs.declared.request.EscActuatorRequest.{EscActuatorRequest}
-use Rattle.esc_feedback.specs.declared.request.EscActuatorAck.{EscActuatorAck}
-use Rattle.esc_feedback.specs.declared.request.EscTelemetryUpdate.{EscTelemetryUpdate}
+use Rattle.esc_lanes.specs.declared.request.EscActuatorRequest.{EscActuatorRequest}
+use Rattle.esc_lanes.specs.declared.request.EscActuatorAck.{EscActuatorAck}
+use Rattle.esc_lanes.specs.declared.request.EscTelemetryUpdate.{EscTelemetryUpdate}
 use Rattle.esc_feedback.specs.declared.answer.EscManagerTimeout.{EscManagerTimeout}
 use Rattle.esc_feedback.specs.declared.answer.EscManagerTimeout.the-variants as timeout
 use Rattle.esc_feedback.specs.declared.manager.EscManager.{EscManager}

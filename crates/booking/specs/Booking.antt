@@ -6,9 +6,9 @@ use mathlib.Core.Option.{Option, none, some}
 use lib.Dec.{eqb}
 use Rattle.base.specs.Choice.{pick}
 use Rattle.blheli_telemetry.specs.Frame.{telemetryOf}
-use Rattle.esc_feedback.specs.Output.{laneOf}
-use Rattle.esc_feedback.specs.declared.request.EscActuatorRequest.{EscActuatorRequest}
-use Rattle.esc_feedback.specs.declared.request.EscTelemetryUpdate.{EscTelemetryUpdate}
+use Rattle.esc_lanes.specs.Output.{laneOf}
+use Rattle.esc_lanes.specs.declared.request.EscActuatorRequest.{EscActuatorRequest}
+use Rattle.esc_lanes.specs.declared.request.EscTelemetryUpdate.{EscTelemetryUpdate}
 use Rattle.base.specs.Maybe.{is, orElse, earliest, onlyIf}
 use Rattle.booking.specs.History.{Timed, Past}
 use Rattle.booking.specs.Wire.{Frame, wire, frameIn}

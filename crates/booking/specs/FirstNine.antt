@@ -9,8 +9,8 @@ use Rattle.base.specs.Reply.{accepted}
 use Rattle.base.specs.Bytes.{areBytes}
 use Rattle.base.specs.BigEndian.{bytesOf}
 use Rattle.blheli_telemetry.specs.Crc.{crcOf}
-use Rattle.esc_feedback.specs.Output.{laneOf}
-use Rattle.esc_feedback.specs.declared.request.EscActuatorRequest.{EscActuatorRequest}
+use Rattle.esc_lanes.specs.Output.{laneOf}
+use Rattle.esc_lanes.specs.declared.request.EscActuatorRequest.{EscActuatorRequest}
 use Rattle.esc_records.specs.Record.{readRecord}
 use Rattle.esc_records.specs.Answer.{idleBytes, answerBytes}
 use Rattle.esc_records.specs.declared.record.Record.{Record}

@@ -6,9 +6,9 @@ use mathlib.Core.Option.{Option, none, some}
 use Rattle.base.specs.Reply.{Reply, accepted, refused}
 use Rattle.esc_feedback.specs.declared.config.EscManagerConfig.{EscManagerConfig}
 use Rattle.esc_idle.specs.declared.idle_config.EscIdleQualificationConfig.{EscIdleQualificationConfig}
-use Rattle.esc_feedback.specs.declared.request.EscActuatorRequest.{EscActuatorRequest}
-use Rattle.esc_feedback.specs.declared.request.EscActuatorAck.{EscActuatorAck}
-use Rattle.esc_feedback.specs.declared.request.EscTelemetryUpdate.{EscTelemetryUpdate}
+use Rattle.esc_lanes.specs.declared.request.EscActuatorRequest.{EscActuatorRequest}
+use Rattle.esc_lanes.specs.declared.request.EscActuatorAck.{EscActuatorAck}
+use Rattle.esc_lanes.specs.declared.request.EscTelemetryUpdate.{EscTelemetryUpdate}
 use Rattle.esc_feedback.specs.declared.answer.EscManagerTimeout.{EscManagerTimeout}
 use Rattle.esc_feedback.specs.declared.answer.EscManagerTimeout.the-variants as timeout
 use Rattle.esc_records.specs.Record.{readRecord}

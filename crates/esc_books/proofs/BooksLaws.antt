@@ -3,9 +3,9 @@ use mathlib.Core.Path.{_≡_, ap}
 use mathlib.Core.Bool.{Bool, true, false}
 use Prim.Native.Nat.{ℕ}
 use Rattle.base.specs.Choice.{pick}
-use Rattle.esc_feedback.specs.Samples.{storedIn}
+use Rattle.esc_lanes.specs.Samples.{storedIn}
 use Rattle.esc_idle.specs.Idle.{observeOf, statusOf}
-use Rattle.esc_feedback.specs.declared.request.EscTelemetryUpdate.{EscTelemetryUpdate}
+use Rattle.esc_lanes.specs.declared.request.EscTelemetryUpdate.{EscTelemetryUpdate}
 use Rattle.esc_idle.specs.declared.idle.EscIdleJudged.{EscIdleJudged}
 use Rattle.esc_books.specs.Figures.{figuresWith}
 use Rattle.esc_books.specs.Books.{booksOf, booksJudged, ifChecking, bookedIn, idleStatus}

@@ -2,13 +2,13 @@
 use Prim.Native.Nat.{ℕ}
 use mathlib.Core.Bool.{Bool, true, false}
 use Rattle.base.specs.Choice.{pick}
-use Rattle.esc_feedback.specs.Samples.{noSamples, storedIn, sampleAt}
+use Rattle.esc_lanes.specs.Samples.{noSamples, storedIn, sampleAt}
 use Rattle.esc_idle.specs.Idle.{newIdle, observeOf, statusOf}
-use Rattle.esc_feedback.specs.declared.output.EscOutput.{EscOutput}
-use Rattle.esc_feedback.specs.declared.request.EscTelemetryUpdate.{EscTelemetryUpdate}
-use Rattle.esc_feedback.specs.declared.samples.StoredObservation.{StoredObservation}
-use Rattle.esc_feedback.specs.declared.samples.StoredObservation.the-variants as held
-use Rattle.esc_feedback.specs.declared.samples.EscSamples.{EscSamples}
+use Rattle.esc_lanes.specs.declared.output.EscOutput.{EscOutput}
+use Rattle.esc_lanes.specs.declared.request.EscTelemetryUpdate.{EscTelemetryUpdate}
+use Rattle.esc_lanes.specs.declared.samples.StoredObservation.{StoredObservation}
+use Rattle.esc_lanes.specs.declared.samples.StoredObservation.the-variants as held
+use Rattle.esc_lanes.specs.declared.samples.EscSamples.{EscSamples}
 use Rattle.esc_idle.specs.declared.idle_config.EscIdleQualificationConfig.{EscIdleQualificationConfig}
 use Rattle.esc_idle.specs.declared.idle.EscIdleQualification.{EscIdleQualification}
 use Rattle.esc_idle.specs.declared.idle.EscIdleJudged.{EscIdleJudged}

@@ -5,9 +5,9 @@ use lib.ListN.{getD, set, replicate}
 use Rattle.base.specs.Choice.{pick}
 use Rattle.base.specs.Saturated.{saturated}
 use Rattle.blheli_telemetry.specs.declared.frame.EscTelemetry.{EscTelemetry}
-use Rattle.esc_feedback.specs.Output.{laneOf}
-use Rattle.esc_feedback.specs.declared.output.EscOutput.{EscOutput}
-use Rattle.esc_feedback.specs.declared.request.EscTelemetryUpdate.{EscTelemetryUpdate}
+use Rattle.esc_lanes.specs.Output.{laneOf}
+use Rattle.esc_lanes.specs.declared.output.EscOutput.{EscOutput}
+use Rattle.esc_lanes.specs.declared.request.EscTelemetryUpdate.{EscTelemetryUpdate}
 use Rattle.esc_records.specs.declared.answer.Figure.{Figure}
 use Rattle.esc_books.specs.declared.figures.Figures.{Figures}
 

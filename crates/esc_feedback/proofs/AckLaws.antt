@@ -8,14 +8,14 @@ use borrow.Author.Tests.{eqb-false}
 use denote.Enum.Declared.{tagOf}
 use types.Run.{OneOf}
 use Rattle.base.specs.Choice.{pick}
-use Rattle.esc_feedback.specs.Request.{sameRequest, updateOf}
+use Rattle.esc_lanes.specs.Request.{sameRequest, updateOf}
 use Rattle.esc_feedback.specs.Stats.{requestsStarted}
 use Rattle.esc_feedback.specs.Outstanding.{startedOutstanding}
 use Rattle.esc_feedback.specs.Manager.{setOutstanding, counting, heardBy, closedBySample}
 use Rattle.esc_feedback.specs.Ack.{rejectedAck, startedBy, ackOn, onAck}
-use Rattle.esc_feedback.specs.declared.request.EscActuatorRequest.{EscActuatorRequest}
-use Rattle.esc_feedback.specs.declared.request.EscActuatorAck.{EscActuatorAck}
-use Rattle.esc_feedback.specs.declared.request.EscTelemetryObservation.{EscTelemetryObservation}
+use Rattle.esc_lanes.specs.declared.request.EscActuatorRequest.{EscActuatorRequest}
+use Rattle.esc_lanes.specs.declared.request.EscActuatorAck.{EscActuatorAck}
+use Rattle.esc_lanes.specs.declared.request.EscTelemetryObservation.{EscTelemetryObservation}
 use Rattle.esc_feedback.specs.declared.answer.EscAckOutcome.the-variants as outcome
 use Rattle.esc_feedback.specs.declared.outstanding.EarlyObservation.{EarlyObservation}
 use Rattle.esc_feedback.specs.declared.outstanding.EarlyObservation.the-variants as early

@@ -2,7 +2,7 @@
 use mathlib.Core.Path.{_≡_}
 use borrow.Author.Tests.{eq-eqb, ne-eqb}
 use Rattle.esc_feedback.specs.Outstanding.{noneOutstanding}
-use Rattle.esc_feedback.specs.Fault.{retriesCleared}
+use Rattle.esc_fault.specs.Fault.{retriesCleared}
 use Rattle.esc_feedback.specs.Manager.{noted, setOutstanding, setFault, setBack, closedBySample}
 use Rattle.esc_feedback.specs.declared.answer.BackAfterRetries.the-variants as back
 use Rattle.esc_feedback.specs.declared.manager.EscManager.{EscManager}

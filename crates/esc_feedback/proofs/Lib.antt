@@ -1,8 +1,4 @@
--- Read in this order: laws on lanes, requests and the fault; what 03 and 05 share (DeliveryLaws); then a file for each call, with a law for
--- each case of it.
-pub mod OutputLaws
-pub mod RequestLaws
-pub mod FaultLaws
+-- Read in this order: what 03 and 05 share (DeliveryLaws); then a file for each call, with a law for each case of it.
 pub mod DeliveryLaws
 pub mod QueueingLaws
 pub mod AckLaws

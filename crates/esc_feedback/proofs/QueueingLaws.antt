@@ -7,12 +7,12 @@ use Rattle.base.specs.Due.{due}
 use Rattle.esc_feedback.specs.Turn.{turnRequest, periodDue}
 use Rattle.esc_feedback.specs.Outstanding.{isOpen}
 use Rattle.esc_feedback.specs.Queueing.{requestExists, nextRequest, isWanted, granted, yes, no, markQueued}
-use Rattle.esc_feedback.specs.declared.request.EscActuatorRequest.{EscActuatorRequest}
+use Rattle.esc_lanes.specs.declared.request.EscActuatorRequest.{EscActuatorRequest}
 use Rattle.esc_feedback.specs.declared.answer.NextRequest.{NextRequest}
 use Rattle.esc_feedback.specs.declared.answer.NextRequest.the-variants as next
 use Rattle.esc_feedback.specs.declared.manager.EscManager.{EscManager}
 use Rattle.esc_feedback.specs.declared.manager.queueing.Marked.{Marked}
-use Rattle.esc_feedback.proofs.RequestLaws.{same-equal, same-itself}
+use Rattle.esc_lanes.proofs.RequestLaws.{same-equal, same-itself}
 
 module _ (m : EscManager) (now : ℕ) where
   pub none-faulted : m .fault .faulted ≡ true → nextRequest m now ≡ next.None

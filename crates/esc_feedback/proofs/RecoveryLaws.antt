@@ -2,7 +2,7 @@
 use mathlib.Core.Path.{_≡_}
 use mathlib.Core.Bool.{Bool, true, false}
 use Prim.Native.Nat.{ℕ}
-use Rattle.esc_feedback.specs.Fault.{mayRecover}
+use Rattle.esc_fault.specs.Fault.{mayRecover}
 use Rattle.esc_feedback.specs.Recovery.{recoveredManager, tryRecover}
 use Rattle.esc_feedback.specs.declared.manager.EscManager.{EscManager}
 

@@ -5,7 +5,7 @@ use Prim.Native.Nat.{ℕ}
 use Rattle.base.specs.Choice.{pick}
 use Rattle.base.specs.Due.{due}
 use Rattle.esc_feedback.specs.Timeout.{noTimeout, ackTimedOut, responseTimedOut, polledOn, pollTimeout}
-use Rattle.esc_feedback.specs.declared.request.EscActuatorRequest.{EscActuatorRequest}
+use Rattle.esc_lanes.specs.declared.request.EscActuatorRequest.{EscActuatorRequest}
 use Rattle.esc_feedback.specs.declared.outstanding.EarlyObservation.{EarlyObservation}
 use Rattle.esc_feedback.specs.declared.outstanding.PendingRequest.the-variants as pending
 use Rattle.esc_feedback.specs.declared.manager.EscManager.{EscManager}

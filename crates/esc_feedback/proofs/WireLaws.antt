@@ -9,12 +9,12 @@ use Rattle.blheli_telemetry.specs.declared.parser.Pushed.{Pushed}
 use Rattle.blheli_telemetry.proofs.ParserLaws.{push-few}
 use Rattle.blheli_telemetry.specs.declared.frame.EscTelemetry.{EscTelemetry}
 use Rattle.blheli_telemetry.specs.declared.parser.Parsed.the-variants.{Sample, Nothing}
-use Rattle.esc_feedback.specs.Request.{observationOf, updateOf}
+use Rattle.esc_lanes.specs.Request.{observationOf, updateOf}
 use Rattle.esc_feedback.specs.Stats.{unsolicitedFrames}
 use Rattle.esc_feedback.specs.Outstanding.{queuedOutstanding}
 use Rattle.esc_feedback.specs.Manager.{setOutstanding, setParser, counting, heardBy, closedBySample}
 use Rattle.esc_feedback.specs.Wire.{refreshed, framedOn, frameTaken, receivedOn, pushWire}
-use Rattle.esc_feedback.specs.declared.request.EscActuatorRequest.{EscActuatorRequest}
+use Rattle.esc_lanes.specs.declared.request.EscActuatorRequest.{EscActuatorRequest}
 use Rattle.esc_feedback.specs.declared.answer.WireUpdate.the-variants as update
 use Rattle.esc_feedback.specs.declared.outstanding.EarlyObservation.{EarlyObservation}
 use Rattle.esc_feedback.specs.declared.outstanding.EarlyObservation.the-variants as early

@@ -1,12 +1,12 @@
 -- 03: an acknowledgement (document 01, 'Manager').
 use Prim.Native.Nat.{ℕ}
 use Rattle.base.specs.Choice.{pick}
-use Rattle.esc_feedback.specs.Request.{sameRequest, updateOf}
+use Rattle.esc_lanes.specs.Request.{sameRequest, updateOf}
 use Rattle.esc_feedback.specs.Stats.{requestsStarted, mismatchedAcks}
 use Rattle.esc_feedback.specs.Outstanding.{startedOutstanding}
 use Rattle.esc_feedback.specs.Manager.{setOutstanding, counting, heardBy, closedBySample}
-use Rattle.esc_feedback.specs.declared.request.EscActuatorRequest.{EscActuatorRequest}
-use Rattle.esc_feedback.specs.declared.request.EscActuatorAck.{EscActuatorAck}
+use Rattle.esc_lanes.specs.declared.request.EscActuatorRequest.{EscActuatorRequest}
+use Rattle.esc_lanes.specs.declared.request.EscActuatorAck.{EscActuatorAck}
 use Rattle.esc_feedback.specs.declared.answer.EscAckOutcome.the-variants as outcome
 use Rattle.esc_feedback.specs.declared.outstanding.EarlyObservation.{EarlyObservation}
 use Rattle.esc_feedback.specs.declared.outstanding.EarlyObservation.the-variants as early

@@ -7,14 +7,14 @@ use Rattle.blheli_telemetry.specs.declared.parser.StreamParser.{StreamParser}
 use Rattle.esc_feedback.specs.Stats.{Count, raised, noStats}
 use Rattle.esc_feedback.specs.Turn.{firstTurn}
 use Rattle.esc_feedback.specs.Outstanding.{noneOutstanding}
-use Rattle.esc_feedback.specs.Fault.{noFault, afterHearing, retriesCleared}
+use Rattle.esc_fault.specs.Fault.{noFault, afterHearing, retriesCleared}
 use Rattle.esc_feedback.specs.declared.answer.BackAfterRetries.{BackAfterRetries}
 use Rattle.esc_feedback.specs.declared.answer.BackAfterRetries.the-variants as back
 use Rattle.esc_feedback.specs.declared.config.EscManagerConfig.{EscManagerConfig}
 use Rattle.esc_feedback.specs.declared.stats.EscManagerStats.{EscManagerStats}
 use Rattle.esc_feedback.specs.declared.turn.Turn.{Turn}
 use Rattle.esc_feedback.specs.declared.outstanding.Outstanding.{Outstanding}
-use Rattle.esc_feedback.specs.declared.fault.Fault.{Fault}
+use Rattle.esc_fault.specs.declared.fault.Fault.{Fault}
 use Rattle.esc_feedback.specs.declared.manager.Back.{Back}
 use Rattle.esc_feedback.specs.declared.manager.EscManager.{EscManager}
 use Rattle.esc_feedback.specs.declared.manager.TakenBack.{TakenBack}

@@ -1,7 +1,7 @@
 -- The open request (document 01, 'Manager').
 use Prim.Native.Nat.{ℕ}
 use mathlib.Core.Bool.{Bool, true, false}
-use Rattle.esc_feedback.specs.declared.request.EscActuatorRequest.{EscActuatorRequest}
+use Rattle.esc_lanes.specs.declared.request.EscActuatorRequest.{EscActuatorRequest}
 use Rattle.esc_feedback.specs.declared.outstanding.EarlyObservation.{EarlyObservation}
 use Rattle.esc_feedback.specs.declared.outstanding.Outstanding.{Outstanding}
 use Rattle.esc_feedback.specs.declared.outstanding.PendingRequest.{PendingRequest}

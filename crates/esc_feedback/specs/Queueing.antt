@@ -3,12 +3,12 @@ use Prim.Native.Nat.{ℕ}
 use mathlib.Core.Bool.{Bool, true, false, not, _&&_}
 use Rattle.base.specs.Choice.{pick}
 use Rattle.base.specs.Due.{due}
-use Rattle.esc_feedback.specs.Request.{sameRequest}
+use Rattle.esc_lanes.specs.Request.{sameRequest}
 use Rattle.esc_feedback.specs.Stats.{requestsQueued}
 use Rattle.esc_feedback.specs.Turn.{turnRequest, periodDue, turnAfter}
 use Rattle.esc_feedback.specs.Outstanding.{isOpen, queuedOutstanding}
 use Rattle.esc_feedback.specs.Manager.{setTurn, setOutstanding, counting}
-use Rattle.esc_feedback.specs.declared.request.EscActuatorRequest.{EscActuatorRequest}
+use Rattle.esc_lanes.specs.declared.request.EscActuatorRequest.{EscActuatorRequest}
 use Rattle.esc_feedback.specs.declared.answer.NextRequest.{NextRequest}
 use Rattle.esc_feedback.specs.declared.answer.NextRequest.the-variants as next
 use Rattle.esc_feedback.specs.declared.outstanding.EarlyObservation.the-variants as early

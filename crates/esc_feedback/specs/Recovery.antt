@@ -4,7 +4,7 @@ use mathlib.Core.Bool.{Bool, true, false}
 use Rattle.base.specs.Choice.{pick}
 use Rattle.esc_feedback.specs.Stats.{recoveries}
 use Rattle.esc_feedback.specs.Outstanding.{noneOutstanding}
-use Rattle.esc_feedback.specs.Fault.{mayRecover, retried}
+use Rattle.esc_fault.specs.Fault.{mayRecover, retried}
 use Rattle.esc_feedback.specs.Manager.{setOutstanding, setFault, counting}
 use Rattle.esc_feedback.specs.Wire.{cutWire}
 use Rattle.esc_feedback.specs.declared.manager.EscManager.{EscManager}

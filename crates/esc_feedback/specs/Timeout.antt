@@ -4,9 +4,9 @@ use Rattle.base.specs.Choice.{pick}
 use Rattle.base.specs.Due.{due}
 use Rattle.esc_feedback.specs.Stats.{ackTimeouts, responseTimeouts}
 use Rattle.esc_feedback.specs.Outstanding.{noneOutstanding}
-use Rattle.esc_feedback.specs.Fault.{timedOutAt}
+use Rattle.esc_fault.specs.Fault.{timedOutAt}
 use Rattle.esc_feedback.specs.Manager.{setOutstanding, setFault, counting}
-use Rattle.esc_feedback.specs.declared.request.EscActuatorRequest.{EscActuatorRequest}
+use Rattle.esc_lanes.specs.declared.request.EscActuatorRequest.{EscActuatorRequest}
 use Rattle.esc_feedback.specs.declared.answer.EscManagerTimeout.the-variants as timeout
 use Rattle.esc_feedback.specs.declared.outstanding.PendingRequest.{PendingRequest}
 use Rattle.esc_feedback.specs.declared.outstanding.PendingRequest.the-variants as pending

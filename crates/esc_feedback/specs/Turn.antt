@@ -2,10 +2,10 @@
 use Prim.Native.Nat.{ℕ}
 use mathlib.Core.Bool.{Bool, true}
 use Rattle.base.specs.Due.{due}
-use Rattle.esc_feedback.specs.Output.{nextOutput}
+use Rattle.esc_lanes.specs.Output.{nextOutput}
 use Rattle.esc_feedback.specs.Stats.{more}
-use Rattle.esc_feedback.specs.declared.output.Lane.the-variants.{Output1}
-use Rattle.esc_feedback.specs.declared.request.EscActuatorRequest.{EscActuatorRequest}
+use Rattle.esc_lanes.specs.declared.output.Lane.the-variants.{Output1}
+use Rattle.esc_lanes.specs.declared.request.EscActuatorRequest.{EscActuatorRequest}
 use Rattle.esc_feedback.specs.declared.turn.LastRequest.{LastRequest}
 use Rattle.esc_feedback.specs.declared.turn.LastRequest.the-variants as last
 use Rattle.esc_feedback.specs.declared.turn.Turn.{Turn}

@@ -4,7 +4,7 @@ use Rattle.blheli_telemetry.specs.Parser.{pushOf, resetOf}
 use Rattle.blheli_telemetry.specs.declared.frame.EscTelemetry.{EscTelemetry}
 use Rattle.blheli_telemetry.specs.declared.parser.Parsed.{Parsed}
 use Rattle.blheli_telemetry.specs.declared.parser.Parsed.the-variants.{Sample, Nothing}
-use Rattle.esc_feedback.specs.Request.{observationOf, updateOf}
+use Rattle.esc_lanes.specs.Request.{observationOf, updateOf}
 use Rattle.esc_feedback.specs.Stats.{unsolicitedFrames, wireRenewed}
 use Rattle.esc_feedback.specs.Outstanding.{queuedOutstanding}
 use Rattle.esc_feedback.specs.Manager.{setOutstanding, setParser, setStats, counting, heardBy, closedBySample}

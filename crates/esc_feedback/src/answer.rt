@@ -1,6 +1,6 @@
 // What the manager's calls answer.
-use crate::request::EscActuatorRequest;
-use crate::request::EscTelemetryUpdate;
+use esc_lanes::EscActuatorRequest;
+use esc_lanes::EscTelemetryUpdate;
 
 pub enum NextRequest {
     None,

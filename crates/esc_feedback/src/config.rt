@@ -7,9 +7,6 @@ ghost use Rattle.esc_feedback.specs.Config.{legacyUart};
 // reaches an ESC later.
 pub const ESC_REQUEST_EXPIRY_MS: u32 = 20;
 
-// Doublings of the recovery quiet window: 0.5 s grows to at most 4 s.
-pub const ESC_RETRY_BACKOFF_STEPS: u32 = 3;
-
 pub struct EscManagerConfig {
     pub boot_delay_ms: u32,
     pub request_period_ms: u32,
@@ -41,11 +38,4 @@ pub fn esc_request_expiry_ms() -> u32
     ensures { λ r. ⌜ r ≡ 20 ⌝ }
 {
     ESC_REQUEST_EXPIRY_MS
-}
-
-// `ESC_RETRY_BACKOFF_STEPS`, likewise.
-pub fn esc_retry_backoff_steps() -> u32
-    ensures { λ r. ⌜ r ≡ 3 ⌝ }
-{
-    ESC_RETRY_BACKOFF_STEPS
 }

@@ -2,12 +2,8 @@
 // ferrowasp-feedback's esc_manager.rs. No public function has a `requires`.
 mod answer;
 mod config;
-mod fault;
 mod manager;
-mod output;
 mod outstanding;
-mod request;
-mod samples;
 mod stats;
 mod turn;
 
@@ -17,11 +13,8 @@ pub use answer::EscManagerTimeout;
 pub use answer::NextRequest;
 pub use answer::WireUpdate;
 pub use config::ESC_REQUEST_EXPIRY_MS;
-pub use config::ESC_RETRY_BACKOFF_STEPS;
 pub use config::EscManagerConfig;
 pub use config::esc_request_expiry_ms;
-pub use config::esc_retry_backoff_steps;
-pub use fault::Fault;
 pub use manager::Acked;
 pub use manager::EscManager;
 pub use manager::Marked;
@@ -29,12 +22,4 @@ pub use manager::Polled;
 pub use manager::Received;
 pub use manager::Recovered;
 pub use manager::TakenBack;
-pub use output::EscOutput;
-pub use output::Lane;
-pub use request::EscActuatorAck;
-pub use request::EscActuatorRequest;
-pub use request::EscTelemetryObservation;
-pub use request::EscTelemetryUpdate;
-pub use samples::EscSamples;
-pub use samples::StoredObservation;
 pub use stats::EscManagerStats;

@@ -20,11 +20,11 @@ ghost use lib.Dec.{eqb};
 ghost use Rattle.esc_feedback.specs.Manager.{newManager, closedBySample, takeBack};
 use crate::answer::BackAfterRetries;
 use crate::config::EscManagerConfig;
-use crate::fault::Fault;
 use crate::outstanding::Outstanding;
 use crate::stats::EscManagerStats;
 use crate::turn::Turn;
 use blheli_telemetry::StreamParser;
+use esc_fault::Fault;
 
 // Set when a sample is delivered after retries, until taken for the log.
 pub struct Back {

@@ -1,8 +1,8 @@
 // The open request: at most one, since a frame does not say which output sent it.
 ghost use mathlib.Core.Path.{_≡_};
 ghost use Rattle.esc_feedback.specs.Outstanding.{noneOutstanding, queuedOutstanding, startedOutstanding, isOpen};
-use crate::request::EscActuatorRequest;
-use crate::request::EscTelemetryObservation;
+use esc_lanes::EscActuatorRequest;
+use esc_lanes::EscTelemetryObservation;
 
 // A frame that came before the acknowledgement.
 //

@@ -1,10 +1,10 @@
 // Whose turn it is: the next request's output and sequence, and when the last one was queued.
 ghost use mathlib.Core.Path.{_≡_};
 ghost use Rattle.esc_feedback.specs.Turn.{firstTurn, turnRequest, periodDue, turnAfter};
-use crate::output::EscOutput;
-use crate::request::EscActuatorRequest;
 use crate::stats::one_more;
 use base::elapsed_at_least;
+use esc_lanes::EscActuatorRequest;
+use esc_lanes::EscOutput;
 
 pub enum LastRequest {
     None,

@@ -6,9 +6,9 @@ use Rattle.base.specs.Due.{due}
 use Rattle.esc_idle.specs.IdleConfig.{validSettings, dshotSettings}
 use Rattle.esc_idle.specs.IdleLane.{countLane, newestExpired, expireLane, expireLanes, everyEnough}
 use Rattle.esc_idle.specs.Idle.{newIdle, weighed, statusOf, measured, observeOf}
-use Rattle.esc_feedback.specs.declared.output.EscOutput.{EscOutput}
-use Rattle.esc_feedback.specs.declared.output.Lane.the-variants.{Output1}
-use Rattle.esc_feedback.specs.declared.request.EscTelemetryUpdate.{EscTelemetryUpdate}
+use Rattle.esc_lanes.specs.declared.output.EscOutput.{EscOutput}
+use Rattle.esc_lanes.specs.declared.output.Lane.the-variants.{Output1}
+use Rattle.esc_lanes.specs.declared.request.EscTelemetryUpdate.{EscTelemetryUpdate}
 use Rattle.esc_idle.specs.declared.idle_lane.Newest.the-variants.{At}
 use Rattle.esc_idle.specs.declared.idle_verdict.EscIdleQualificationFailure.the-variants.{Overspeed}
 use Rattle.esc_idle.specs.declared.idle_verdict.EscIdleQualificationStatus.{EscIdleQualificationStatus}

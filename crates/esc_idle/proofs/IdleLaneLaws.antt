@@ -11,7 +11,7 @@ use Rattle.base.proofs.Both.{and-left, and-right}
 use Rattle.base.specs.Saturated.{saturated}
 use Rattle.base.specs.Due.{due}
 use Rattle.esc_idle.specs.IdleLane.{clearLane, countUp, countLane, newestExpired, expireLane, enough, everyEnough, countOf}
-use Rattle.esc_feedback.specs.declared.request.EscTelemetryObservation.{EscTelemetryObservation}
+use Rattle.esc_lanes.specs.declared.request.EscTelemetryObservation.{EscTelemetryObservation}
 use Rattle.esc_idle.specs.declared.idle_lane.Newest.the-variants.{None, At}
 use Rattle.esc_idle.specs.declared.idle_lane.IdleLane.{IdleLane}
 

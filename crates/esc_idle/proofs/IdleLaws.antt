@@ -9,7 +9,7 @@ use Rattle.base.specs.Due.{due}
 use Rattle.esc_idle.specs.IdleConfig.{validSettings}
 use Rattle.esc_idle.specs.IdleLane.{everyEnough}
 use Rattle.esc_idle.specs.Idle.{saying, decided, unlessTerminal, standing, timeoutWith, freshAt, weighed, statusOf, sampled, measured, observeOf}
-use Rattle.esc_feedback.specs.declared.request.EscTelemetryUpdate.{EscTelemetryUpdate}
+use Rattle.esc_lanes.specs.declared.request.EscTelemetryUpdate.{EscTelemetryUpdate}
 use Rattle.esc_idle.specs.declared.idle_verdict.EscIdleQualificationFailure.the-variants.{InvalidConfig, Overspeed}
 use Rattle.esc_idle.specs.declared.idle_verdict.EscIdleQualificationStatus.{EscIdleQualificationStatus}
 use Rattle.esc_idle.specs.declared.idle_verdict.EscIdleQualificationStatus.the-variants.{Pending, Qualified, Failed}

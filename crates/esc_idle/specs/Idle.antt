@@ -5,10 +5,10 @@ use lib.Dec.{ltb}
 use lib.ListN.{getD, set, replicate}
 use Rattle.base.specs.Choice.{pick}
 use Rattle.base.specs.Due.{due}
-use Rattle.esc_feedback.specs.Output.{laneOf}
+use Rattle.esc_lanes.specs.Output.{laneOf}
 use Rattle.esc_idle.specs.IdleConfig.{validSettings}
 use Rattle.esc_idle.specs.IdleLane.{clearLane, countLane, expireLanes, everyEnough, countOf}
-use Rattle.esc_feedback.specs.declared.request.EscTelemetryUpdate.{EscTelemetryUpdate}
+use Rattle.esc_lanes.specs.declared.request.EscTelemetryUpdate.{EscTelemetryUpdate}
 use Rattle.esc_idle.specs.declared.idle_config.EscIdleQualificationConfig.{EscIdleQualificationConfig}
 use Rattle.esc_idle.specs.declared.idle_lane.IdleLane.{IdleLane}
 use Rattle.esc_idle.specs.declared.idle_verdict.EscIdleQualificationFailure.{EscIdleQualificationFailure}

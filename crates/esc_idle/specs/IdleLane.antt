@@ -7,7 +7,7 @@ use lib.ListN.{getD}
 use Rattle.base.specs.Choice.{pick}
 use Rattle.base.specs.Saturated.{saturated}
 use Rattle.base.specs.Due.{due}
-use Rattle.esc_feedback.specs.declared.request.EscTelemetryObservation.{EscTelemetryObservation}
+use Rattle.esc_lanes.specs.declared.request.EscTelemetryObservation.{EscTelemetryObservation}
 use Rattle.esc_idle.specs.declared.idle_lane.Newest.{Newest}
 use Rattle.esc_idle.specs.declared.idle_lane.Newest.the-variants.{None, At}
 use Rattle.esc_idle.specs.declared.idle_lane.IdleLane.{IdleLane}

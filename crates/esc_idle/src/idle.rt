@@ -11,7 +11,7 @@ use crate::idle_verdict::EscIdleQualificationStatus;
 use crate::idle_verdict::IdleVerdict;
 use crate::idle_verdict::Terminal;
 use base::elapsed_at_least;
-use esc_feedback::EscTelemetryUpdate;
+use esc_lanes::EscTelemetryUpdate;
 
 pub struct EscIdleQualification {
     config: EscIdleQualificationConfig,

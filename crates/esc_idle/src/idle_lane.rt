@@ -3,7 +3,7 @@ ghost use mathlib.Core.Path.{_≡_};
 ghost use Rattle.esc_idle.specs.IdleLane.{clearLane, countUp, countLane, newestExpired, expireLane, expireLanes, enough, everyEnough};
 use base::elapsed_at_least;
 use base::saturating_inc;
-use esc_feedback::EscTelemetryObservation;
+use esc_lanes::EscTelemetryObservation;
 
 // When a lane's newest sample was observed; a clear lane has none.
 pub enum Newest {

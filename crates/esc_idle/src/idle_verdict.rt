@@ -1,5 +1,5 @@
 // What the idle check answers, and the verdict that it keeps.
-use esc_feedback::EscOutput;
+use esc_lanes::EscOutput;
 
 pub enum EscIdleQualificationFailure {
     InvalidConfig,

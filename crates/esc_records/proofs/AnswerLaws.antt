@@ -7,8 +7,8 @@ use native.Mathlib.Omega.{arith}
 use lib.ListN.{length, length-append}
 use Rattle.base.specs.BigEndian.{bytesOf}
 use Rattle.blheli_telemetry.specs.Frame.{payloadOf}
-use Rattle.esc_feedback.specs.declared.request.EscActuatorRequest.{EscActuatorRequest}
-use Rattle.esc_feedback.specs.declared.request.EscTelemetryUpdate.{EscTelemetryUpdate}
+use Rattle.esc_lanes.specs.declared.request.EscActuatorRequest.{EscActuatorRequest}
+use Rattle.esc_lanes.specs.declared.request.EscTelemetryUpdate.{EscTelemetryUpdate}
 use Rattle.esc_feedback.specs.declared.answer.NextRequest.the-variants as next
 use Rattle.esc_feedback.specs.declared.answer.EscManagerTimeout.the-variants as timeout
 use Rattle.esc_feedback.specs.declared.answer.BackAfterRetries.the-variants as back

@@ -5,10 +5,10 @@ use mathlib.Core.Bool.{true, false}
 use mathlib.Core.List.{[], _∷_, _++_}
 use Rattle.base.specs.Reply.{accepted, refused}
 use Rattle.base.specs.BigEndian.{numberAt}
-use Rattle.esc_feedback.specs.declared.output.Lane.{Lane}
-use Rattle.esc_feedback.specs.declared.output.Lane.the-variants.{Output1, Output2, Output3, Output4}
-use Rattle.esc_feedback.specs.declared.output.EscOutput.{EscOutput}
-use Rattle.esc_feedback.specs.declared.request.EscActuatorRequest.{EscActuatorRequest}
+use Rattle.esc_lanes.specs.declared.output.Lane.{Lane}
+use Rattle.esc_lanes.specs.declared.output.Lane.the-variants.{Output1, Output2, Output3, Output4}
+use Rattle.esc_lanes.specs.declared.output.EscOutput.{EscOutput}
+use Rattle.esc_lanes.specs.declared.request.EscActuatorRequest.{EscActuatorRequest}
 use Rattle.esc_records.specs.Record.{recordOf, readRecord}
 use Rattle.esc_records.specs.declared.record.Record.the-variants as kind
 use Rattle.esc_records.proofs.Rising.{rising}

@@ -6,9 +6,9 @@ use Rattle.base.specs.Reply.{Reply, accepted, refused}
 use Rattle.base.specs.BigEndian.{bytesOf}
 use Rattle.blheli_telemetry.specs.Frame.{payloadOf}
 use Rattle.blheli_telemetry.specs.declared.parser.ParserStats.{ParserStats}
-use Rattle.esc_feedback.specs.Output.{laneOf}
-use Rattle.esc_feedback.specs.declared.request.EscActuatorRequest.{EscActuatorRequest}
-use Rattle.esc_feedback.specs.declared.request.EscTelemetryUpdate.{EscTelemetryUpdate}
+use Rattle.esc_lanes.specs.Output.{laneOf}
+use Rattle.esc_lanes.specs.declared.request.EscActuatorRequest.{EscActuatorRequest}
+use Rattle.esc_lanes.specs.declared.request.EscTelemetryUpdate.{EscTelemetryUpdate}
 use Rattle.esc_feedback.specs.declared.stats.EscManagerStats.{EscManagerStats}
 use Rattle.esc_feedback.specs.declared.answer.NextRequest.{NextRequest}
 use Rattle.esc_feedback.specs.declared.answer.NextRequest.the-variants as next

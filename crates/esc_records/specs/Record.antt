@@ -7,8 +7,8 @@ use lib.ListN.{length, getD}
 use Rattle.base.specs.Choice.{pick}
 use Rattle.base.specs.Reply.{Reply, accepted, refused}
 use Rattle.base.specs.BigEndian.{numberAt}
-use Rattle.esc_feedback.specs.Output.{outputAt}
-use Rattle.esc_feedback.specs.declared.request.EscActuatorRequest.{EscActuatorRequest}
+use Rattle.esc_lanes.specs.Output.{outputAt}
+use Rattle.esc_lanes.specs.declared.request.EscActuatorRequest.{EscActuatorRequest}
 use Rattle.esc_feedback.specs.declared.config.EscManagerConfig.{EscManagerConfig}
 use Rattle.esc_idle.specs.declared.idle_config.EscIdleQualificationConfig.{EscIdleQualificationConfig}
 use Rattle.esc_records.specs.declared.record.Record.{Record}

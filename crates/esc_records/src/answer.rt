@@ -2,9 +2,9 @@
 use esc_feedback::BackAfterRetries;
 use esc_feedback::EscManagerStats;
 use esc_feedback::EscManagerTimeout;
-use esc_feedback::EscTelemetryUpdate;
 use esc_feedback::NextRequest;
 use esc_idle::EscIdleQualificationStatus;
+use esc_lanes::EscTelemetryUpdate;
 
 // What the idle check says, if there is one.
 pub enum IdleAnswer {

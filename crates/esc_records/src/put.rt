@@ -2,10 +2,10 @@
 ghost use mathlib.Core.Path.{_≡_};
 ghost use mathlib.Core.List.{_∷_, []};
 ghost use Rattle.base.specs.BigEndian.{bytesOf};
-ghost use Rattle.esc_feedback.specs.Output.{laneOf};
+ghost use Rattle.esc_lanes.specs.Output.{laneOf};
 ghost use Rattle.esc_records.specs.Answer.{flagByte};
 ghost use Rattle.base.specs.Put.{Room, Put};
-use esc_feedback::EscOutput;
+use esc_lanes::EscOutput;
 
 pub(crate) fn put_byte(out: &mut [u8], at: usize, byte: u8) -> usize
     requires { ⌜ Room at (byte ∷ []) (now out) ⌝ }

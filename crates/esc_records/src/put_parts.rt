@@ -2,7 +2,7 @@
 ghost use mathlib.Core.List.{_∷_, [], _++_};
 ghost use Rattle.base.specs.BigEndian.{bytesOf};
 ghost use Rattle.blheli_telemetry.specs.Frame.{payloadOf};
-ghost use Rattle.esc_feedback.specs.Output.{laneOf};
+ghost use Rattle.esc_lanes.specs.Output.{laneOf};
 ghost use Rattle.esc_records.specs.Answer.{requestBytes, sampleBytes, failureBytes, idleBytes, deliveredBytes, statsBytes, reportBytes, figureBytes};
 ghost use Rattle.base.specs.Put.{Room, Put};
 use crate::answer::Delivered;
@@ -14,12 +14,12 @@ use crate::put::put_flag;
 use crate::put::put_lane;
 use crate::put::put_number;
 use blheli_telemetry::EscTelemetry;
-use esc_feedback::EscActuatorRequest;
 use esc_feedback::EscManagerStats;
-use esc_feedback::EscOutput;
-use esc_feedback::EscTelemetryUpdate;
 use esc_idle::EscIdleQualificationFailure;
 use esc_idle::EscIdleQualificationStatus;
+use esc_lanes::EscActuatorRequest;
+use esc_lanes::EscOutput;
+use esc_lanes::EscTelemetryUpdate;
 
 pub(crate) fn put_marked_request(
     out: &mut [u8],

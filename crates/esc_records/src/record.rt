@@ -2,18 +2,18 @@
 ghost use mathlib.Core.Path.{_≡_};
 ghost use mathlib.Core.List.{List};
 ghost use Prim.Native.Nat.{ℕ};
-ghost use Rattle.esc_feedback.specs.Output.{outputAt};
+ghost use Rattle.esc_lanes.specs.Output.{outputAt};
 ghost use Rattle.esc_records.specs.Record.{laneFits, flagFits, recordOf, readRecord, recordRead};
 ghost use Rattle.esc_records.specs.Fields.{Narrow, Found};
 ghost use Rattle.esc_records.specs.Whole.{Whole};
 use crate::fields::Fields;
 use crate::fields::LAST_KIND;
 use crate::fields::read_fields;
-use esc_feedback::EscActuatorAck;
-use esc_feedback::EscActuatorRequest;
 use esc_feedback::EscManagerConfig;
-use esc_feedback::EscOutput;
 use esc_idle::EscIdleQualificationConfig;
+use esc_lanes::EscActuatorAck;
+use esc_lanes::EscActuatorRequest;
+use esc_lanes::EscOutput;
 
 pub enum Record {
     // 00

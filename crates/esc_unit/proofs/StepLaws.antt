@@ -7,8 +7,8 @@ use Rattle.esc_feedback.specs.Ack.{onAck}
 use Rattle.esc_feedback.specs.Timeout.{pollTimeout}
 use Rattle.esc_feedback.specs.Wire.{pushWire}
 use Rattle.esc_feedback.specs.Recovery.{tryRecover}
-use Rattle.esc_feedback.specs.declared.request.EscActuatorRequest.{EscActuatorRequest}
-use Rattle.esc_feedback.specs.declared.request.EscActuatorAck.{EscActuatorAck}
+use Rattle.esc_lanes.specs.declared.request.EscActuatorRequest.{EscActuatorRequest}
+use Rattle.esc_lanes.specs.declared.request.EscActuatorAck.{EscActuatorAck}
 use Rattle.esc_feedback.specs.declared.answer.EscAckOutcome.{EscAckOutcome}
 use Rattle.esc_feedback.specs.declared.answer.EscAckOutcome.the-variants as outcome
 use Rattle.esc_feedback.specs.declared.answer.WireUpdate.{WireUpdate}

@@ -14,7 +14,7 @@ use Rattle.esc_feedback.specs.Timeout.{pollTimeout}
 use Rattle.esc_feedback.specs.Wire.{pushWire, cutWire, refreshed}
 use Rattle.esc_feedback.specs.Recovery.{tryRecover}
 use Rattle.esc_feedback.specs.declared.config.EscManagerConfig.{EscManagerConfig}
-use Rattle.esc_feedback.specs.declared.request.EscTelemetryUpdate.{EscTelemetryUpdate}
+use Rattle.esc_lanes.specs.declared.request.EscTelemetryUpdate.{EscTelemetryUpdate}
 use Rattle.esc_feedback.specs.declared.answer.EscAckOutcome.{EscAckOutcome}
 use Rattle.esc_feedback.specs.declared.answer.EscAckOutcome.the-variants as outcome
 use Rattle.esc_feedback.specs.declared.answer.WireUpdate.{WireUpdate}

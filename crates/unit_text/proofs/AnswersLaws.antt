@@ -14,17 +14,14 @@ use Rattle.esc_feedback.specs.Queueing.{nextRequest, markQueued}
 use Rattle.esc_feedback.specs.Ack.{onAck}
 use Rattle.esc_feedback.specs.Timeout.{pollTimeout}
 use Rattle.esc_feedback.specs.Wire.{pushWire}
-use Rattle.esc_feedback.specs.declared.request.EscActuatorRequest.{EscActuatorRequest}
-use Rattle.esc_feedback.specs.declared.request.EscActuatorAck.{EscActuatorAck}
-use Rattle.esc_feedback.specs.declared.request.EscTelemetryUpdate.{EscTelemetryUpdate}
+use Rattle.esc_lanes.specs.declared.request.EscActuatorRequest.{EscActuatorRequest}
+use Rattle.esc_lanes.specs.declared.request.EscActuatorAck.{EscActuatorAck}
+use Rattle.esc_lanes.specs.declared.request.EscTelemetryUpdate.{EscTelemetryUpdate}
 use Rattle.esc_feedback.specs.declared.answer.EscAckOutcome.the-variants as outcome
-use Rattle.esc_feedback.specs.declared.answer.WireUpdate.{WireUpdate}
 use Rattle.esc_feedback.specs.declared.answer.WireUpdate.the-variants as update
-use Rattle.esc_feedback.specs.declared.manager.EscManager.{EscManager}
 use Rattle.esc_feedback.specs.declared.manager.wire.Received.{Received}
 use Rattle.esc_feedback.proofs.WireLaws.{pushed-collected}
 use Rattle.esc_books.specs.Books.{bookedIn}
-use Rattle.esc_books.specs.declared.books.Books.{Books}
 use Rattle.esc_records.specs.Answer.{flagByte, deliveredBytes, answerBytes, replyBytes, longestAnswer}
 use Rattle.esc_records.specs.declared.answer.Answer.the-variants as answer
 use Rattle.esc_records.specs.declared.record.Record.{Record}

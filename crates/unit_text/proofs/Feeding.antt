@@ -14,15 +14,15 @@ use Rattle.esc_records.specs.declared.record.Record.{Record}
 use Rattle.esc_unit.specs.Unit.{Replied}
 use Rattle.esc_records.specs.Answer.{replyBytes}
 use Rattle.esc_unit.specs.declared.unit.Unit.{Unit}
-use Rattle.unit_text.specs.Line.{lineEnd, readLine, printedLine, longestRecord, mostHeld}
+use Rattle.hex_lines.specs.Line.{lineEnd, readLine, printedLine, longestRecord, mostHeld}
 use Rattle.unit_text.specs.Session.{answerOn, answerLine, unitAfter, lineText}
 use Rattle.unit_text.specs.Stream.{Streamed, after, printed, taken, feedOf, fedOutput, longestLine}
-use Rattle.unit_text.specs.NextLine.{firstLine, BufferHolds}
+use Rattle.hex_lines.specs.NextLine.{firstLine, BufferHolds}
 use Rattle.unit_text.specs.Answering.{Answers, PrintedAt}
 use Rattle.unit_text.specs.NextRecord.{RecordEnded}
 use Rattle.base.proofs.PutLaws.{overwrite-none}
-use Rattle.unit_text.proofs.LinesLaws.{Unended}
-use Rattle.unit_text.proofs.FirstLine.{first-unended, first-split}
+use Rattle.hex_lines.proofs.Unended.{Unended}
+use Rattle.hex_lines.proofs.FirstLine.{first-unended, first-split}
 use Rattle.unit_text.proofs.StreamLaws.{after-append, printed-append, line-length}
 use Rattle.unit_text.proofs.LineTurn.{after-held, after-line, printed-past, printed-line, taken-past, taken-line, taken-stop}
 

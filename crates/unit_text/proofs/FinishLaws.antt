@@ -6,7 +6,7 @@ use native.Mathlib.Omega.{arith}
 use borrow.Author.Tests.{eq-eqb, ne-eqb}
 use lib.ListN.{length, take}
 use Rattle.base.specs.Reply.{accepted}
-use Rattle.unit_text.specs.Line.{lineEnd}
+use Rattle.hex_lines.specs.Line.{lineEnd}
 use Rattle.base.specs.Handed.{handedReply, handedOutput}
 use Rattle.unit_text.specs.Stream.{Streamed, Taken, printed, printedAtEnd, feedOf, fedOutput, longestLine}
 use Rattle.base.proofs.PutLaws.{overwrite-none}

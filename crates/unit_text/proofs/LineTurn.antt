@@ -7,11 +7,12 @@ use borrow.Author.Tests.{le-leb, lt-leb}
 use lib.ListN.{length, take}
 use lib.Seq.{take-all}
 use Rattle.esc_unit.specs.declared.unit.Unit.{Unit}
-use Rattle.unit_text.specs.Line.{lineEnd, mostHeld}
+use Rattle.hex_lines.specs.Line.{lineEnd, mostHeld}
 use Rattle.unit_text.specs.Session.{unitAfter, lineText}
 use Rattle.unit_text.specs.Stream.{Streamed, afterOne, after, printed, taken, longestLine}
-use Rattle.unit_text.proofs.HeldEnough.{enough-more, enough-unit, enough-text}
-use Rattle.unit_text.proofs.LinesLaws.{Unended}
+use Rattle.hex_lines.proofs.HeldEnough.{enough-more}
+use Rattle.unit_text.proofs.HeldAnswer.{enough-unit, enough-text}
+use Rattle.hex_lines.proofs.Unended.{Unended}
 use Rattle.unit_text.proofs.StreamLaws.{after-append, printed-append, after-end, printed-end, after-other, printed-other}
 
 -- a stream that has passed `line`, of a line that is not ended

@@ -4,13 +4,9 @@ use mathlib.Core.List.{List, [], _∷_, _++_, append-nil, append-assoc}
 use Prim.Native.Nat.{ℕ}
 use borrow.Author.Tests.{eq-eqb, ne-eqb}
 use lib.ListN.{length}
-use Rattle.unit_text.specs.Line.{lineEnd}
+use Rattle.hex_lines.specs.Line.{lineEnd}
+use Rattle.hex_lines.proofs.Unended.{Unended}
 use Rattle.unit_text.specs.Session.{linesFrom, linesOf}
-
--- no character of a line is LF
-abbrev pub Unended : List ℕ → Type 0
-Unended [] = Unit {0}
-Unended (c ∷ line) = (c ≡ lineEnd → ⊥) × Unended line
 
 pub lines-at-end : (line text : List ℕ) (c : ℕ) → c ≡ lineEnd → linesFrom line (c ∷ text) ≡ line ∷ linesOf text
 unfolding linesFrom

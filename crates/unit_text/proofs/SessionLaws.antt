@@ -8,10 +8,11 @@ use borrow.Author.Tests.{ne-eqb, eqb-true, eqb-false}
 use lib.Dec.{eqb}
 use lib.ListN.{length, take}
 use Rattle.esc_unit.specs.declared.unit.Unit.{Unit}
-use Rattle.unit_text.specs.Line.{lineEnd, mostHeld}
+use Rattle.hex_lines.specs.Line.{lineEnd, mostHeld}
 use Rattle.unit_text.specs.Session.{linesFrom, unitAfter, lineText, linesText, sessionText}
 use Rattle.unit_text.specs.Stream.{Streamed, atStart, afterOne, printedAt, after, printed, printedAtEnd}
-use Rattle.unit_text.proofs.HeldEnough.{enough-more, enough-unit, enough-text}
+use Rattle.hex_lines.proofs.HeldEnough.{enough-more}
+use Rattle.unit_text.proofs.HeldAnswer.{enough-unit, enough-text}
 use Rattle.unit_text.proofs.LinesLaws.{lines-at-end, lines-at-other}
 use Rattle.unit_text.proofs.StreamLaws.{after-end, printed-end, after-other, printed-other}
 

@@ -12,11 +12,11 @@ use lib.Seq.{take-suc, take-add}
 use Rattle.base.specs.Choice.{pick}
 use Rattle.esc_records.specs.Answer.{replyBytes}
 use Rattle.esc_unit.specs.declared.unit.Unit.{Unit}
-use Rattle.unit_text.specs.Line.{lineEnd, mostHeld}
+use Rattle.hex_lines.specs.Line.{lineEnd, mostHeld}
 use Rattle.unit_text.specs.Session.{answerLine, unitAfter, lineText}
 use Rattle.unit_text.specs.Stream.{Streamed, afterOne, printedAt, after, printed, printedAtEnd, longestLine}
 use Rattle.unit_text.proofs.AnswerLength.{reply-length}
-use Rattle.unit_text.proofs.PrintLaws.{printed-length}
+use Rattle.hex_lines.proofs.PrintLaws.{printed-length}
 
 -- pieces do not matter
 pub after-append : (s : Streamed) (a b : List ℕ) → after s (a ++ b) ≡ after (after s a) b

@@ -9,7 +9,7 @@ use Rattle.booking.specs.History.{History, since}
 use Rattle.booking.specs.Rule.{ruleFor}
 use Rattle.booking.proofs.Traced.{Fits, called}
 use Rattle.esc_records.specs.Answer.{longestAnswer}
-use Rattle.unit_text.specs.Line.{readLine}
+use Rattle.hex_lines.specs.Line.{readLine}
 use Rattle.unit_text.specs.Session.{linesOf, answerOn, answerLine, unitAfter, lineText, linesText, sessionText}
 use Rattle.unit_text.specs.Traced.{ruled, historyAfter, linesTraced, tracedText}
 

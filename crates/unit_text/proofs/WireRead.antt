@@ -15,16 +15,16 @@ use Rattle.esc_records.specs.declared.record.Record.the-variants as kind
 use Rattle.base.proofs.NumberLaws.{number-more, below-more}
 use Rattle.esc_records.proofs.RecordLaws.{read-accepted}
 use Rattle.esc_unit.proofs.UnitLaws.{admitted-read}
-use Rattle.unit_text.specs.Digit.{digitOf, pairOf}
-use Rattle.unit_text.specs.Line.{lineEnd, allDigits, pairs}
-use Rattle.unit_text.specs.NextLine.{firstLine}
+use Rattle.hex_lines.specs.Digit.{digitOf, pairOf}
+use Rattle.hex_lines.specs.Line.{lineEnd, allDigits, pairs}
+use Rattle.hex_lines.specs.NextLine.{firstLine}
 use Rattle.unit_text.specs.Answering.{admittedBy}
 use Rattle.unit_text.specs.WireLine.{WireFrom, CollectedFrom}
 use Rattle.unit_text.specs.declared.wire_line.WireLine.{WireLine}
 use Rattle.unit_text.specs.declared.wire_line.WireLine.the-variants as wire
-use Rattle.unit_text.proofs.FirstLine.{first-ended}
-use Rattle.unit_text.proofs.LineLaws.{read-whole}
-use Rattle.unit_text.proofs.PairsLaws.{pair-read, unended-digits, digits-more, pairs-length, pairs-at}
+use Rattle.hex_lines.proofs.FirstLine.{first-ended}
+use Rattle.hex_lines.proofs.LineLaws.{read-whole}
+use Rattle.hex_lines.proofs.PairsLaws.{pair-read, unended-digits, digits-more, pairs-length, pairs-at}
 
 -- ten bytes that begin with 05
 wire-record : (s : List ℕ) → length s ≡ 10 → getD s 0 0 ≡ 0x05 → readRecord s ≡ accepted (kind.WireByte (getD s 1 0) (numberAt 8 s 2))

@@ -10,7 +10,7 @@ use Rattle.esc_unit.specs.Admission.{admittedOf}
 use Rattle.esc_records.specs.Answer.{replyBytes}
 use Rattle.esc_records.specs.declared.record.Record.{Record}
 use Rattle.esc_unit.specs.declared.unit.Unit.{Unit}
-use Rattle.unit_text.specs.Line.{printedLine}
+use Rattle.hex_lines.specs.Line.{printedLine}
 use Rattle.unit_text.specs.Session.{answerOn}
 
 -- 1 to 3 by the line, 4 to 8 by the record and whether the unit was opened

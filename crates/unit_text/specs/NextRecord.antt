@@ -6,8 +6,8 @@ use mathlib.Core.List.{List, _++_}
 use lib.ListN.{length}
 use Rattle.base.specs.Reply.{Reply, accepted, refused}
 use Rattle.esc_records.specs.declared.record.Record as declared
-use Rattle.unit_text.specs.Line.{readLine, mostHeld}
-use Rattle.unit_text.specs.NextLine.{firstLine, BufferHolds}
+use Rattle.hex_lines.specs.Line.{readLine, mostHeld}
+use Rattle.hex_lines.specs.NextLine.{firstLine, BufferHolds}
 use Rattle.unit_text.specs.Answering.{admittedBy}
 use Rattle.unit_text.specs.declared.next_record.NextRecord.{NextRecord}
 use Rattle.unit_text.specs.declared.next_record.NextRecord.the-variants.{Open, Refused, Record}

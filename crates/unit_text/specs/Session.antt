@@ -8,7 +8,7 @@ use Rattle.base.specs.Reply.{Reply, accepted, refused}
 use Rattle.esc_unit.specs.Unit.{Replied, refusing, callOf, neverOpened}
 use Rattle.esc_records.specs.Answer.{replyBytes, longestAnswer}
 use Rattle.esc_unit.specs.declared.unit.Unit.{Unit}
-use Rattle.unit_text.specs.Line.{lineEnd, readLine, printedLine}
+use Rattle.hex_lines.specs.Line.{lineEnd, readLine, printedLine}
 
 -- the lines of a text, where `line` is what came before it of the first: a line is ended by LF or by the end of input; a
 -- last LF opens no further line, and empty input holds none

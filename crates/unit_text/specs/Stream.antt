@@ -7,7 +7,7 @@ use Rattle.base.specs.Choice.{pick}
 use Rattle.base.specs.BigEndian.{overwrite}
 use Rattle.esc_unit.specs.Unit.{neverOpened}
 use Rattle.esc_unit.specs.declared.unit.Unit.{Unit}
-use Rattle.unit_text.specs.Line.{lineEnd, mostHeld}
+use Rattle.hex_lines.specs.Line.{lineEnd, mostHeld}
 use Rattle.unit_text.specs.Session.{unitAfter, lineText}
 
 -- the unit, and the start of the line that is not ended. 59 characters of it say as much as all: such a line is too wide

@@ -6,7 +6,7 @@ use Rattle.esc_records.specs.Answer.{replyBytes, longestAnswer}
 use Rattle.esc_records.specs.declared.answer.Answer.{Answer}
 use Rattle.booking.specs.History.{Call, History}
 use Rattle.booking.specs.Rule.{ruleFor}
-use Rattle.unit_text.specs.Line.{readLine, printedLine}
+use Rattle.hex_lines.specs.Line.{readLine, printedLine}
 use Rattle.unit_text.specs.Session.{linesOf}
 
 abbrev pub callFor : List ℕ → Call

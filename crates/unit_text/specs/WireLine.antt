@@ -8,8 +8,8 @@ use lib.ListN.{length}
 use Rattle.base.specs.Reply.{accepted}
 use Rattle.blheli_telemetry.specs.declared.parser.StreamParser.{StreamParser}
 use Rattle.esc_records.specs.declared.record.Record.the-variants as kind
-use Rattle.unit_text.specs.Line.{readLine}
-use Rattle.unit_text.specs.NextLine.{firstLine}
+use Rattle.hex_lines.specs.Line.{readLine}
+use Rattle.hex_lines.specs.NextLine.{firstLine}
 use Rattle.unit_text.specs.Answering.{admittedBy}
 use Rattle.unit_text.specs.declared.wire_line.WireLine.{WireLine}
 use Rattle.unit_text.specs.declared.wire_line.WireLine.the-variants as wire

@@ -6,8 +6,8 @@ ghost use Rattle.esc_records.specs.Answer.{flagByte, longestAnswer};
 ghost use Rattle.esc_records.specs.Text.{textOf};
 ghost use Rattle.unit_text.specs.Answering.{PrintedAt};
 ghost use Rattle.unit_text.specs.Stream.{longestLine};
-use crate::line::print_line;
 use esc_records::AnswerText;
+use hex_lines::line::print_line;
 
 pub(crate) fn print_text(text: AnswerText, out: &mut [u8], at: usize) -> usize
     requires { ⌜ (text .len ≤ longestAnswer) × (at + longestLine ≤ length (now out)) ⌝ }

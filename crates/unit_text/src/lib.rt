@@ -1,12 +1,8 @@
 // Sessions of the ESC telemetry unit as text: a record in hexadecimal on each line, an answer in
 // hexadecimal on a line for each.
 mod answer;
-mod digit;
 mod hand;
-mod line;
-mod next_line;
 mod next_record;
-mod pair;
 mod stream;
 mod whole_session;
 mod wire_line;

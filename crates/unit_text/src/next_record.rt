@@ -2,17 +2,17 @@
 ghost use mathlib.Core.Path.{_≡_};
 ghost use Prim.Native.Nat.{_≤_};
 ghost use lib.ListN.{length, take};
-ghost use Rattle.unit_text.specs.Digit.{DigitTabled};
-ghost use Rattle.unit_text.specs.Line.{longestRecord, mostHeld, lineRead, recordLength};
+ghost use Rattle.hex_lines.specs.Digit.{DigitTabled};
+ghost use Rattle.hex_lines.specs.Line.{longestRecord, mostHeld, lineRead, recordLength};
 ghost use Rattle.unit_text.specs.Answering.{admittedBy};
 ghost use Rattle.unit_text.specs.NextRecord.{NextRecordFrom};
 ghost use Rattle.esc_records.specs.Record.{recordRead};
-use crate::line::LineRead;
-use crate::next_line::NextLine;
-use crate::next_line::next_line;
 use esc_records::Record;
 use esc_records::RecordRead;
 use esc_unit::admit;
+use hex_lines::line::LineRead;
+use hex_lines::next_line::NextLine;
+use hex_lines::next_line::next_line;
 
 pub(crate) enum NextRecord {
     // The chunk ends before the line does; so many characters are held.

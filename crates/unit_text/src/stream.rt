@@ -6,14 +6,10 @@ ghost use lib.ListN.{length};
 ghost use Rattle.base.specs.Handed.{handedReply, handedOutput, handed};
 ghost use Rattle.unit_text.specs.Stream.{atStart, feedOf, fedOutput, printedAtEnd};
 ghost use Rattle.unit_text.specs.Streams.{streamed, fed};
-ghost use Rattle.unit_text.specs.Line.{mostHeld};
+ghost use Rattle.hex_lines.specs.Line.{mostHeld};
 use crate::answer::print_flag;
 use crate::answer::print_refusal;
 use crate::answer::print_text;
-use crate::digit::digits;
-use crate::line::LINE_END;
-use crate::line::LONGEST_RECORD;
-use crate::next_line::HELD;
 use crate::next_record::NextRecord;
 use crate::next_record::next_record;
 use crate::wire_line::WIRE_LINE;
@@ -31,6 +27,10 @@ use esc_records::next_text;
 use esc_records::timeout_text;
 use esc_unit::Unit;
 use esc_unit::step;
+use hex_lines::digit::digits;
+use hex_lines::line::LINE_END;
+use hex_lines::line::LONGEST_RECORD;
+use hex_lines::next_line::HELD;
 
 // As much as any printed line takes.
 pub const LONGEST_LINE: usize = 87;

@@ -1,10 +1,10 @@
 // A line with a wire byte, as most lines of a session are: it is read straight into its numbers.
-ghost use Rattle.unit_text.specs.Digit.{DigitTabled};
+ghost use Rattle.hex_lines.specs.Digit.{DigitTabled};
 ghost use Rattle.unit_text.specs.WireLine.{WireFrom, CollectedFrom};
-use crate::line::LINE_END;
-use crate::pair::NO_BYTE;
-use crate::pair::pair;
 use blheli_telemetry::StreamParser;
+use hex_lines::line::LINE_END;
+use hex_lines::pair::NO_BYTE;
+use hex_lines::pair::pair;
 
 // How many characters it has: two of the kind, two of the byte, sixteen of the time.
 pub(crate) const WIRE_LINE: usize = 20;

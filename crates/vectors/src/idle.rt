@@ -2,13 +2,13 @@
 // expected is what esc_manager.rs gave.
 use crate::print;
 use blheli_telemetry::EscTelemetry;
-use esc_feedback::EscOutput;
-use esc_feedback::EscTelemetryObservation;
-use esc_feedback::EscTelemetryUpdate;
-use esc_feedback::Lane;
 use esc_idle::EscIdleQualification;
 use esc_idle::EscIdleQualificationConfig;
 use esc_idle::EscIdleQualificationStatus;
+use esc_lanes::EscOutput;
+use esc_lanes::EscTelemetryObservation;
+use esc_lanes::EscTelemetryUpdate;
+use esc_lanes::Lane;
 
 // The idle check: which settings are valid, and what it says to samples.
 pub fn run() {

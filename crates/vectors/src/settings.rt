@@ -1,8 +1,8 @@
 // The settings that esc_manager.rs names, and which settings of the idle check are valid: each limit met and
 // missed. What is expected is what esc_manager.rs gave.
 use crate::print;
+use esc_fault::ESC_RETRY_BACKOFF_STEPS;
 use esc_feedback::ESC_REQUEST_EXPIRY_MS;
-use esc_feedback::ESC_RETRY_BACKOFF_STEPS;
 use esc_feedback::EscManagerConfig;
 use esc_idle::DSHOT_IDLE_QUALIFICATION_CONFIG;
 use esc_idle::DSHOT_IDLE_THROTTLE_COMMAND;

@@ -6,10 +6,10 @@ use crate::manager::EscManager;
 use crate::outstanding::EarlyObservation;
 use crate::outstanding::Outstanding;
 use crate::outstanding::PendingRequest;
-use crate::request::EscActuatorAck;
-use crate::request::EscActuatorRequest;
-use crate::request::EscTelemetryUpdate;
 use crate::stats::one_more;
+use esc_lanes::EscActuatorAck;
+use esc_lanes::EscActuatorRequest;
+use esc_lanes::EscTelemetryUpdate;
 
 pub struct Acked {
     pub manager: EscManager,

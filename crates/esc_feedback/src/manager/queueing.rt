@@ -5,9 +5,9 @@ use crate::answer::NextRequest;
 use crate::manager::EscManager;
 use crate::outstanding::EarlyObservation;
 use crate::outstanding::Outstanding;
-use crate::request::EscActuatorRequest;
 use crate::stats::one_more;
 use base::elapsed_at_least;
+use esc_lanes::EscActuatorRequest;
 
 pub struct Marked {
     pub manager: EscManager,

@@ -5,7 +5,7 @@ use crate::kinds::Stepped;
 use crate::kinds::answered;
 use esc_books::Books;
 use esc_feedback::EscManager;
-use esc_feedback::EscOutput;
+use esc_lanes::EscOutput;
 use esc_records::Answer;
 use esc_records::Record;
 use esc_records::UnitReport;

@@ -1,13 +1,13 @@
 // 01 to 04: requests, their queueing, their start and their end.
 ghost use mathlib.Core.Path.{_≡_};
-ghost use Rattle.esc_unit.specs.Unit.{stepOf, ackedOn};
+ghost use Rattle.esc_unit.specs.Unit.{stepOf};
 use crate::kinds::Stepped;
 use crate::kinds::answered;
 use esc_books::Books;
 use esc_feedback::EscAckOutcome;
-use esc_feedback::EscActuatorAck;
-use esc_feedback::EscActuatorRequest;
 use esc_feedback::EscManager;
+use esc_lanes::EscActuatorAck;
+use esc_lanes::EscActuatorRequest;
 use esc_records::AckAnswer;
 use esc_records::Answer;
 use esc_records::Delivered;

@@ -1,7 +1,7 @@
 -- There are four lanes.
 use borrow.Author.Needs.{needs}
 use native.Mathlib.Omega.{arith}
-use Rattle.esc_feedback.proofs.OutputLaws.{lane-below}
+use Rattle.esc_lanes.proofs.OutputLaws.{lane-below}
 use Rattle.esc_records.proofs.put.lane_byte.Statement.{statement}
 use Rattle.esc_records.proofs.put.lane_byte.Tie as tie
 

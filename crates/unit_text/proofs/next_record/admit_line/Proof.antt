@@ -2,7 +2,7 @@
 use native.Mathlib.Omega.{arith}
 use mathlib.Core.Path.{sym, ap}
 use lib.Seq.{length-take-le}
-use Rattle.unit_text.specs.Line.{recordLength}
+use Rattle.hex_lines.specs.Line.{recordLength}
 use borrow.Author.Needs.{needs}
 use Rattle.unit_text.proofs.next_record.admit_line.Statement.{statement}
 use Rattle.unit_text.proofs.next_record.admit_line.Tie as tie

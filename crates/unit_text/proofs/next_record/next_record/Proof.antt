@@ -4,9 +4,9 @@ use mathlib.Core.Path.{sym, ap, _∙_}
 use denote.Ref.{now}
 use lib.ListN.{take}
 use Rattle.esc_records.specs.Record.{recordRead}
-use Rattle.unit_text.specs.NextLine.{NextFrom}
+use Rattle.hex_lines.specs.NextLine.{NextFrom}
 use Rattle.unit_text.specs.Answering.{admittedBy}
-use Rattle.unit_text.specs.declared.next_line.NextLine.the-variants.{Ended}
+use Rattle.hex_lines.specs.declared.next_line.NextLine.the-variants.{Ended}
 use borrow.Author.Needs.{needs}
 use Rattle.unit_text.proofs.next_record.next_record.Statement.{statement}
 use Rattle.unit_text.proofs.next_record.next_record.Tie as tie

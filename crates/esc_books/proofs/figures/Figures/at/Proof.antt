@@ -1,7 +1,7 @@
 -- The index is that of one of four lanes.
 use borrow.Author.Needs.{needs}
 use native.Mathlib.Omega.{arith}
-use Rattle.esc_feedback.proofs.OutputLaws.{lane-below}
+use Rattle.esc_lanes.proofs.OutputLaws.{lane-below}
 use Rattle.esc_books.proofs.figures.Figures.at.Statement.{statement}
 use Rattle.esc_books.proofs.figures.Figures.at.Tie as tie
 

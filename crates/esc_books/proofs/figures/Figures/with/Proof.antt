@@ -1,7 +1,7 @@
 -- The index is that of one of four lanes, and the figure there takes the sample by the callee.
 use borrow.Author.Needs.{needs}
 use native.Mathlib.Omega.{arith}
-use Rattle.esc_feedback.proofs.OutputLaws.{lane-below}
+use Rattle.esc_lanes.proofs.OutputLaws.{lane-below}
 use Rattle.esc_books.proofs.figures.Figures.with.Statement.{statement}
 use Rattle.esc_books.proofs.figures.Figures.with.Tie as tie
 

@@ -1,7 +1,7 @@
 -- The index is that of one of four lanes, and the lane there is counted by the callee.
 use borrow.Author.Needs.{needs}
 use native.Mathlib.Omega.{arith}
-use Rattle.esc_feedback.proofs.OutputLaws.{lane-below}
+use Rattle.esc_lanes.proofs.OutputLaws.{lane-below}
 use Rattle.esc_idle.proofs.idle.EscIdleQualification.sampled.Statement.{statement}
 use Rattle.esc_idle.proofs.idle.EscIdleQualification.sampled.Tie as tie
 

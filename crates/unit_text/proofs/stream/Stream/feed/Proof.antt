@@ -1,20 +1,18 @@
 -- Every turn answers the next line of the chunk, in place where a byte is only collected; each kind of a flight by its own law.
 use borrow.Author.Needs.{needs}
 use native.Mathlib.Omega.{arith}
-use mathlib.Core.Path.{_≡_, sym, ap, _∙_}
+use mathlib.Core.Path.{_≡_, ap, _∙_}
 use mathlib.Core.Bool.{Bool}
-use mathlib.Core.List.{List, [], _∷_, _++_}
+use mathlib.Core.List.{List, _++_}
 use Prim.Native.Nat.{ℕ, _+_, _-_, _≤_, _<_}
 use denote.Ref.{now}
 use lib.ListN.{length, take, drop}
 use Rattle.base.specs.Reply.{Reply, accepted, refused}
-use Rattle.esc_feedback.specs.declared.answer.EscAckOutcome.{EscAckOutcome}
-use Rattle.esc_records.specs.Answer.{longestAnswer}
 use Rattle.esc_records.specs.declared.record.Record.{Record}
 use Rattle.esc_records.proofs.AnswerLaws.{answer-fits, delivered-fits}
 use Rattle.esc_unit.specs.declared.unit.Unit.{Unit}
-use Rattle.unit_text.specs.Line.{readLine}
-use Rattle.unit_text.specs.NextLine.{firstLine}
+use Rattle.hex_lines.specs.Line.{readLine, longestRecord}
+use Rattle.hex_lines.specs.NextLine.{firstLine}
 use Rattle.unit_text.specs.NextRecord.{RecordEnded, NextRecordFrom}
 use Rattle.unit_text.specs.Answering.{admittedBy}
 use Rattle.unit_text.specs.Stream.{longestLine}
@@ -86,7 +84,7 @@ module _ (c : tie.After-bytes2 Inv-loop μ-loop) where
   abbrev bytes-after : List ℕ
   bytes-after = c .before .before .next-record .last .1 .1 .1 .1 .0
 
-  bytes-room : length bytes-after ≡ 29
+  bytes-room : length bytes-after ≡ longestRecord
   bytes-room = c .before .before .next-record .kept .1 .1 .1 .1 .0 ∙ turn .before .before .loop .inv .room
 
   found : (r : NextRecord) → c .before .before .next-record .result ≡ r → NextRecordFrom (was turn .opened) (begun turn) (left-over turn) r line-after

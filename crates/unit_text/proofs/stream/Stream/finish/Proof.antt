@@ -6,7 +6,7 @@ use mathlib.Core.List.{List}
 use Prim.Native.Nat.{ℕ}
 use lib.ListN.{length, length-take}
 use Rattle.base.specs.Handed.{handedReply, handedOutput}
-use Rattle.unit_text.specs.Line.{mostHeld}
+use Rattle.hex_lines.specs.Line.{mostHeld}
 use Rattle.unit_text.proofs.FedLaws.{fed-fits}
 use Rattle.unit_text.proofs.FinishLaws.{finish-none, finish-some}
 use Rattle.unit_text.proofs.stream.Stream.finish.Statement.{statement}

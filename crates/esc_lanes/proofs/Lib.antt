@@ -1,0 +1,3 @@
+-- Read in this order: laws on lanes; on requests.
+pub mod OutputLaws
+pub mod RequestLaws
