@@ -2,8 +2,9 @@
 //!
 //! The Rust's `elapsed_at_least` is private: it is asked through `next_request` of a manager with a boot
 //! delay, which calls it and nothing else that matters. The Rust has no frame writer: what is written is
-//! read by its `decode`, and compared with the layout.
+//! read by its `decode`, and compared with the layout. It has no capture search: its `decode` is asked of each window.
 //! Usage: in_process ROUNDS SEED
+mod airframe_calls;
 mod c_calls;
 mod rng;
 use esc_manager::{EscManager, EscManagerConfig};
@@ -124,6 +125,16 @@ fn parse(stream: &[u8], short: [usize; 3]) -> u64 {
     n as u64
 }
 
+/// Some window that is a good frame, or the length exactly if none is.
+fn search(capture: &[u8]) -> u64 {
+    let good = |start: &usize| decode(capture[*start..start + 10].try_into().unwrap()).is_ok();
+    let starts: Vec<usize> = (0..capture.len().saturating_sub(9)).filter(good).collect();
+    let place = c_calls::find_frame(capture);
+    let right = if starts.is_empty() { place == capture.len() } else { starts.contains(&place) };
+    assert!(right, "searching {capture:02x?}: {place}, good are {starts:?}");
+    1
+}
+
 fn elapsed(start: u64, now: u64, duration: u32) -> u64 {
     let config = EscManagerConfig { boot_delay_ms: duration, ..EscManagerConfig::legacy_uart() };
     let rust = EscManager::new(config, start).next_request(now).is_some();
@@ -134,7 +145,7 @@ fn elapsed(start: u64, now: u64, duration: u32) -> u64 {
 fn main() {
     let words: Vec<u64> = std::env::args().skip(1).map(|w| w.parse().unwrap()).collect();
     let (rounds, mut g) = (words[0], Rng::new(words[1]));
-    let [mut crcs, mut reads, mut writes, mut parsed, mut times] = [0_u64; 5];
+    let [mut crcs, mut reads, mut writes, mut parsed, mut searches, mut times] = [0_u64; 6];
 
     // every list of no byte, of one and of two
     crcs += crc(&[]);
@@ -170,6 +181,16 @@ fn main() {
             }
         }
     }
+    // no frame, one at each place, and two
+    for n in 0..=30 {
+        searches += search(&bytes(&mut g, n));
+        for m in 0..=12 {
+            let (before, after) = (bytes(&mut g, n), bytes(&mut g, m));
+            searches += search(&[before, g.frame(m as u16).to_vec(), after, g.frame(n as u16).to_vec()].concat());
+        }
+    }
+    let speeds = airframe_calls::speeds();
+    let mut maps = airframe_calls::maps();
     // starts, durations, and nows about start + duration and about the ends of the clock
     let ends = [0, 1, 2, 1 << 16, 1 << 31, 1 << 32, 1 << 63, u64::MAX - 1, u64::MAX];
     let durations = [0, 1, 2, 19, 20, 65535, 65536, 1 << 31, u32::MAX - 1, u32::MAX];
@@ -196,6 +217,10 @@ fn main() {
         }
         let n = g.n(1000) as usize;
         parsed += parse(&stream(&mut g, n), [0; 3]);
+        let n = g.n(60) as usize;
+        searches += search(&stream(&mut g, n));
+        let n = g.n(7);
+        maps += airframe_calls::map(&bytes(&mut g, n));
     }
-    println!("in_process: crc8 {crcs}, frames read {reads}, written {writes}, stream bytes {parsed}, elapsed_at_least {times}: no answer differs");
+    println!("in_process: crc8 {crcs}, frames read {reads}, written {writes}, stream bytes {parsed}, captures searched {searches}, elapsed_at_least {times}, speeds {speeds}, conversions {maps}: no answer differs");
 }
