@@ -1,5 +1,6 @@
 //! Speed and the board map of libc_calls.a beside document 01's sentences: the Rust has neither.
 use crate::c_calls;
+use crate::rng::Rng;
 
 /// What stands in the lent number before a call.
 const FOUND: u8 = 0xa5;
@@ -33,7 +34,7 @@ fn refusal(map: &[u8], in_range: bool) -> Option<u8> {
 }
 
 /// Both conversions of a map, for every byte.
-pub fn map(map: &[u8]) -> u64 {
+fn map(map: &[u8]) -> u64 {
     for byte in 0..=255_u8 {
         let mut motor = FOUND;
         let number = c_calls::motor_of_lane(map, byte, &mut motor);
@@ -54,8 +55,18 @@ pub fn map(map: &[u8]) -> u64 {
     2 * 256
 }
 
-/// Every map of at most five bytes 0 to 5.
-pub fn maps() -> u64 {
-    let lists = (0..=5).flat_map(|len| (0..6_u32.pow(len)).map(move |list| (len, list)));
-    lists.map(|(len, list)| map(&(0..len).map(|i| (list / 6_u32.pow(i) % 6) as u8).collect::<Vec<u8>>())).sum()
+/// Every map of at most five bytes 0 to 5, and any bytes.
+pub fn maps(g: &mut Rng, rounds: u64) -> u64 {
+    let mut calls = 0;
+    for len in 0..=5 {
+        for list in 0..6_u32.pow(len) {
+            let bytes: Vec<u8> = (0..len).map(|i| (list / 6_u32.pow(i) % 6) as u8).collect();
+            calls += map(&bytes);
+        }
+    }
+    for _ in 0..rounds {
+        let bytes: Vec<u8> = (0..g.n(7)).map(|_| g.byte()).collect();
+        calls += map(&bytes);
+    }
+    calls
 }

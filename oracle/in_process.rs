@@ -135,6 +135,23 @@ fn search(capture: &[u8]) -> u64 {
     1
 }
 
+/// Captures of noise, with two frames in noise, and of streams.
+fn searches(g: &mut Rng, rounds: u64) -> u64 {
+    let mut count = 0;
+    for n in 0..=30 {
+        count += search(&bytes(g, n));
+        for m in 0..=12 {
+            let (before, after) = (bytes(g, n), bytes(g, m));
+            count += search(&[before, g.frame(m as u16).to_vec(), after, g.frame(n as u16).to_vec()].concat());
+        }
+    }
+    for _ in 0..rounds {
+        let n = g.n(60) as usize;
+        count += search(&stream(g, n));
+    }
+    count
+}
+
 fn elapsed(start: u64, now: u64, duration: u32) -> u64 {
     let config = EscManagerConfig { boot_delay_ms: duration, ..EscManagerConfig::legacy_uart() };
     let rust = EscManager::new(config, start).next_request(now).is_some();
@@ -145,7 +162,7 @@ fn elapsed(start: u64, now: u64, duration: u32) -> u64 {
 fn main() {
     let words: Vec<u64> = std::env::args().skip(1).map(|w| w.parse().unwrap()).collect();
     let (rounds, mut g) = (words[0], Rng::new(words[1]));
-    let [mut crcs, mut reads, mut writes, mut parsed, mut searches, mut times] = [0_u64; 6];
+    let [mut crcs, mut reads, mut writes, mut parsed, mut times] = [0_u64; 5];
 
     // every list of no byte, of one and of two
     crcs += crc(&[]);
@@ -181,16 +198,6 @@ fn main() {
             }
         }
     }
-    // no frame, one at each place, and two
-    for n in 0..=30 {
-        searches += search(&bytes(&mut g, n));
-        for m in 0..=12 {
-            let (before, after) = (bytes(&mut g, n), bytes(&mut g, m));
-            searches += search(&[before, g.frame(m as u16).to_vec(), after, g.frame(n as u16).to_vec()].concat());
-        }
-    }
-    let speeds = airframe_calls::speeds();
-    let mut maps = airframe_calls::maps();
     // starts, durations, and nows about start + duration and about the ends of the clock
     let ends = [0, 1, 2, 1 << 16, 1 << 31, 1 << 32, 1 << 63, u64::MAX - 1, u64::MAX];
     let durations = [0, 1, 2, 19, 20, 65535, 65536, 1 << 31, u32::MAX - 1, u32::MAX];
@@ -217,10 +224,9 @@ fn main() {
         }
         let n = g.n(1000) as usize;
         parsed += parse(&stream(&mut g, n), [0; 3]);
-        let n = g.n(60) as usize;
-        searches += search(&stream(&mut g, n));
-        let n = g.n(7);
-        maps += airframe_calls::map(&bytes(&mut g, n));
     }
+    let searches = searches(&mut g, rounds);
+    let speeds = airframe_calls::speeds();
+    let maps = airframe_calls::maps(&mut g, rounds);
     println!("in_process: crc8 {crcs}, frames read {reads}, written {writes}, stream bytes {parsed}, captures searched {searches}, elapsed_at_least {times}, speeds {speeds}, conversions {maps}: no answer differs");
 }
