@@ -1,12 +1,7 @@
-//! The calls of libc_calls.a, over slices.
-extern "C" {
-    fn esc_crc8(bytes: *const u8, len: usize) -> u8;
-    fn esc_frame_read(frame: *const u8, len: usize, fields: *mut u16, room: usize) -> u8;
-    fn esc_frame_write(temperature: u8, voltage: u16, current: u16, consumption: u16, erpm: u16, out: *mut u8, room: usize) -> u8;
-    fn esc_stream_parse(bytes: *const u8, len: usize, gave: *mut u8, marks: usize, fields: *mut u16, room: usize, counts: *mut u32, n: usize) -> u8;
-    fn esc_elapsed_at_least(start: u64, now: u64, duration: u32) -> bool;
-    fn esc_unit_session(text: *const u8, len: usize, out: *mut u8, room: usize, count: *mut usize) -> u8;
-}
+//! The calls of libc_calls.a, over slices: what each answers, and what it leaves in what it is lent.
+#[path = "../examples/rust/esc_unit.rs"]
+mod esc_unit;
+use esc_unit::raw::*;
 
 pub fn crc8(bytes: &[u8]) -> u8 {
     unsafe { esc_crc8(bytes.as_ptr(), bytes.len()) }
@@ -26,4 +21,16 @@ pub fn elapsed_at_least(start: u64, now: u64, duration: u32) -> bool {
 }
 pub fn unit_session(text: &[u8], out: &mut [u8], count: &mut usize) -> u8 {
     unsafe { esc_unit_session(text.as_ptr(), text.len(), out.as_mut_ptr(), out.len(), count) }
+}
+pub fn find_frame(capture: &[u8]) -> usize {
+    unsafe { esc_find_frame(capture.as_ptr(), capture.len()) }
+}
+pub fn motor_speed(erpm_div100: u16, magnets: u8, rpm: &mut u32) -> u8 {
+    unsafe { esc_motor_speed(erpm_div100, magnets, rpm) }
+}
+pub fn motor_of_lane(map: &[u8], lane: u8, motor: &mut u8) -> u8 {
+    unsafe { esc_motor_of_lane(map.as_ptr(), map.len(), lane, motor) }
+}
+pub fn lane_of_motor(map: &[u8], motor: u8, lane: &mut u8) -> u8 {
+    unsafe { esc_lane_of_motor(map.as_ptr(), map.len(), motor, lane) }
 }

@@ -14,7 +14,7 @@ from pathlib import Path
 CRATES = Path(__file__).resolve().parent.parent / "crates"
 CLAUSE = re.compile(r"^\s*ensures(?: \w+)? \{ λ (\w+)\. (.*) \}$", re.M)
 # what a definition of specs/ says of the result where no equation could
-FREE = {"find_frame": "Searched"}
+FREE = {"find_frame": "Searched", "esc_find_frame": "Searched"}
 # a crate that is a part of another
 PARTS = {"hex_lines": "unit_text"}
 

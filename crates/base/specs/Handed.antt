@@ -25,8 +25,3 @@ copied at text out = pick (leb (at + length text) (length out)) (overwrite at te
 abbrev pub handed : Handed → Reply ℕ
 handed (hand.Written n) = accepted n
 handed hand.Space = refused 9
-
--- the count that a call for C stores: as found where it is refused
-abbrev pub countAfter : Reply ℕ → ℕ → ℕ
-countAfter (accepted n) found = n
-countAfter (refused number) found = found

@@ -1,3 +1,7 @@
--- Read in this order: a frame's fields, then the parser over a stream, which stores the same fields.
+-- Read in this order: a number that is stored; a frame's fields, then the parser over a stream, which stores the same fields;
+-- the capture search; the board map.
+pub mod Stored
 pub mod Frame
 pub mod Stream
+pub mod Capture
+pub mod BoardMap
