@@ -50,6 +50,16 @@ fn answer_file(name: &[u8], input: &mut [u8], out: &mut [u8]) -> bool
     goes_on
 }
 
+// Answers what an argument names.
+fn answer_argument(kind: Argument, name: &[u8], input: &mut [u8], out: &mut [u8]) -> bool
+    requires { ⌜ longestLine ≤ length (now out) ⌝ }
+{
+    if let Argument::Input = kind {
+        return answer_input(input, out);
+    }
+    answer_file(name, input, out)
+}
+
 // Answers all files, or standard input where none is named. No option but `--` is left here.
 pub(crate) fn answer_all(text: &mut [u8], input: &mut [u8], out: &mut [u8])
     requires { ⌜ longestLine ≤ length (now out) ⌝ }
@@ -74,14 +84,4 @@ pub(crate) fn answer_all(text: &mut [u8], input: &mut [u8], out: &mut [u8])
     if !named {
         answer_input(input, out);
     }
-}
-
-// Answers what an argument names.
-fn answer_argument(kind: Argument, name: &[u8], input: &mut [u8], out: &mut [u8]) -> bool
-    requires { ⌜ longestLine ≤ length (now out) ⌝ }
-{
-    if let Argument::Input = kind {
-        return answer_input(input, out);
-    }
-    answer_file(name, input, out)
 }
