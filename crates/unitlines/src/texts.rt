@@ -2,7 +2,7 @@
 use crate::messages::not_written;
 use libc::STDOUT_FILENO;
 
-// The project's version. It stands here alone.
+// The project's version; tests/arguments.py holds the README to it.
 pub(crate) fn print_version() {
     print(b"unitlines 0.1.0\n");
 }
