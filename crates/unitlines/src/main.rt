@@ -1,98 +1,23 @@
-// The program: lines of records from standard input, a line with the answer to each on standard
-// output. It only reads and writes; what is printed is the stream's.
+// The program: lines of records from files or standard input, a line with the answer to each on
+// standard output.
+mod arguments;
+mod files;
+mod messages;
+mod options;
 mod output;
+mod session;
+mod texts;
 
-use crate::output::write_end;
-use crate::output::write_printed;
-use base::Handed;
-use libc::STDERR_FILENO;
-use libc::STDIN_FILENO;
-use unit_text::Stream;
-ghost use mathlib.Core.Path.{_≡_};
-ghost use mathlib.Core.Bool.{true};
-ghost use Prim.Native.Nat.{_≤_};
-ghost use lib.ListN.{length};
-ghost use Rattle.unit_text.specs.Stream.{after, longestLine};
-ghost use Rattle.unit_text.specs.Streams.{streamed};
-
-// The stream after a chunk, and whether all that it printed was written.
-struct Pumped {
-    stream: Stream,
-    ok: bool,
-}
-
-// Feeds all of a chunk to a stream.
-fn pump(stream: Stream, chunk: &[u8], out: &mut [u8]) -> Pumped
-    requires { ⌜ longestLine ≤ length (now out) ⌝ }
-    ensures { λ r. ⌜ (r .ok ≡ true → streamed (r .stream) ≡ after (streamed stream) (now (chunk .entry))) ⌝ }
-{
-    let mut stream = stream;
-    let mut used: usize = 0;
-    while used < chunk.len() {
-        let from = used;
-        let before = stream;
-        let fed = before.feed(&chunk[from..], out);
-        let written = fed.written;
-        stream = fed.stream;
-        used += fed.used;
-        if !write_printed(before, &chunk[from..used], &out[..written]) {
-            return Pumped { stream, ok: false };
-        }
-    }
-    Pumped { stream, ok: true }
-}
-
-// Writes what the end of input prints.
-fn finish(stream: Stream, out: &mut [u8]) -> bool {
-    let end = stream.finish(out);
-    let Handed::Written(n) = end else {
-        return false;
-    };
-    write_end(stream, &out[..n])
-}
-
-fn not_written() {
-    io::write_all(
-        STDERR_FILENO,
-        b"unitlines: standard output could not be written\n",
-    );
-}
-
-// Reads to the end of input. A loop has to end, and nothing says that the input does: the count of
-// reads ends it, and no input is that long.
-fn run(input: &mut [u8], out: &mut [u8])
-    requires { ⌜ longestLine ≤ length (now out) ⌝ }
-{
-    let mut stream = Stream::new();
-    let mut turns = u64::MAX;
-    while turns > 0 {
-        turns -= 1;
-        let got = libc::read(STDIN_FILENO, input);
-        if got < 0 {
-            io::write_all(
-                STDERR_FILENO,
-                b"unitlines: standard input could not be read\n",
-            );
-            return;
-        }
-        if got == 0 {
-            if !finish(stream, out) {
-                not_written();
-            }
-            return;
-        }
-        let n = io::count(got, input);
-        let pumped = pump(stream, &input[..n], out);
-        if !pumped.ok {
-            not_written();
-            return;
-        }
-        stream = pumped.stream;
-    }
-}
+use crate::files::answer_all;
+use crate::options::no_option;
 
 fn main() {
+    // one more than any path has, so that an argument that is cut names no file and is no known option
+    let mut text = io::buffer();
+    if !no_option(&mut text) {
+        return;
+    }
     let mut input = io::large_buffer();
     let mut out = io::large_buffer();
-    run(&mut input, &mut out);
+    answer_all(&mut text, &mut input, &mut out);
 }

@@ -1,4 +1,4 @@
-// All that reaches standard output. A contract can't say that something was written, so each of these
+// All answers that reach standard output. A contract can't say that something was written, so each of these
 // two asks what the text is that it hands to the write call, and whoever calls it has proved it. The
 // stream and the part of the input are here for that alone.
 ghost use mathlib.Core.Path.{_≡_};

@@ -11,8 +11,8 @@ use Rattle.unit_text.specs.Streams.{streamed}
 use Rattle.unit_text.proofs.Feeding.{part-left}
 use Rattle.unit_text.proofs.FedLaws.{fed-stream, fed-within, fed-some, fed-fits, fed-text}
 use Rattle.unit_text.proofs.StreamLaws.{after-on}
-use Rattle.unitlines.proofs.pump.Statement.{statement}
-use Rattle.unitlines.proofs.pump.Tie as tie
+use Rattle.unitlines.proofs.session.pump.Statement.{statement}
+use Rattle.unitlines.proofs.session.pump.Tie as tie
 
 abbrev Inv-loop : tie.InvT-loop
 Inv-loop chunk out₀ stream₀ used₀ out stream used = (used ≤ length chunk) × (length out ≡ length out₀) × (streamed stream ≡ after (streamed stream₀) (take used chunk))

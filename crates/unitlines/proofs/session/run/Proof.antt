@@ -3,14 +3,14 @@ use borrow.Author.Needs.{needs}
 use native.Mathlib.Omega.{arith}
 use mathlib.Core.Path.{_≡_, _∙_}
 use lib.ListN.{length}
-use Rattle.unitlines.proofs.run.Statement.{statement}
-use Rattle.unitlines.proofs.run.Tie as tie
+use Rattle.unitlines.proofs.session.run.Statement.{statement}
+use Rattle.unitlines.proofs.session.run.Tie as tie
 
 abbrev Inv-loop : tie.InvT-loop
-Inv-loop input₀ out₀ stream₀ turns₀ t8 input out stream turns = (length input ≡ length input₀) × (length out ≡ length out₀)
+Inv-loop fd input₀ out₀ stream₀ turns₀ input out stream turns = (length input ≡ length input₀) × (length out ≡ length out₀)
 
 abbrev μ-loop : tie.MeasureT-loop
-μ-loop input₀ out₀ stream₀ turns₀ t8 input out stream turns = turns
+μ-loop fd input₀ out₀ stream₀ turns₀ input out stream turns = turns
 
 new-requires : tie.Need-new-requires Inv-loop μ-loop
 new-requires c κs = search needs
@@ -24,12 +24,6 @@ sub-turns c = search needs
 read-requires : tie.Need-read-requires Inv-loop μ-loop
 read-requires c κs = search needs
 
-slice-aggregate-write-all : tie.Need-slice-aggregate-write-all Inv-loop μ-loop
-slice-aggregate-write-all c = search needs
-
-write-all-requires : tie.Need-write-all-requires Inv-loop μ-loop
-write-all-requires c κs = search needs
-
 same-length : tie.Need-same-length Inv-loop μ-loop
 same-length c = search needs
 
@@ -41,9 +35,6 @@ returns c = search needs
 
 finish-requires : tie.Need-finish-requires Inv-loop μ-loop
 finish-requires c κs = search needs
-
-not-written-requires : tie.Need-not-written-requires Inv-loop μ-loop
-not-written-requires c κs = search needs
 
 same-length-3 : tie.Need-same-length-3 Inv-loop μ-loop
 same-length-3 c = search needs
@@ -75,14 +66,11 @@ slice-aggregate-pump c = search needs
 pump-requires : tie.Need-pump-requires Inv-loop μ-loop
 pump-requires c κs = search needs
 
-not-written-requires-2 : tie.Need-not-written-requires-2 Inv-loop μ-loop
-not-written-requires-2 c κs = search needs
-
 same-length-7 : tie.Need-same-length-7 Inv-loop μ-loop
-same-length-7 c = c .before .before .before .before .before .before .before .before .before .before .before .before .before .before .read .kept .1 .0 ∙ c .before .before .before .before .before .before .before .before .before .before .before .before .before .before .before .before .before .loop .inv .0
+same-length-7 c = c .before .before .before .before .before .before .before .before .before .before .before .before .before .read .kept .1 .0 ∙ c .before .before .before .before .before .before .before .before .before .before .before .before .before .before .before .before .loop .inv .0
 
 same-length-8 : tie.Need-same-length-8 Inv-loop μ-loop
-same-length-8 c = c .before .before .before .before .before .pump .kept .1 .1 .0 ∙ c .before .before .before .before .before .before .before .before .before .before .before .before .before .before .before .before .before .loop .inv .1
+same-length-8 c = c .before .before .before .before .pump .kept .1 .1 .0 ∙ c .before .before .before .before .before .before .before .before .before .before .before .before .before .before .before .before .loop .inv .1
 
 returns-4 : tie.Need-returns-4 Inv-loop μ-loop
 returns-4 c = search needs
@@ -114,13 +102,10 @@ run-spec =
     loop-holds
     sub-turns
     read-requires
-    slice-aggregate-write-all
-    write-all-requires
     same-length
     same-length-2
     returns
     finish-requires
-    not-written-requires
     same-length-3
     same-length-4
     returns-2
@@ -131,7 +116,6 @@ run-spec =
     slice-reshare-prefix-pump
     slice-aggregate-pump
     pump-requires
-    not-written-requires-2
     same-length-7
     same-length-8
     returns-4

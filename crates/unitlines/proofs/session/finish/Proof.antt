@@ -12,8 +12,8 @@ use Rattle.base.specs.Handed.{handedReply, handedOutput, handed}
 use Rattle.unit_text.specs.Stream.{printedAtEnd}
 use Rattle.unit_text.specs.Streams.{streamed}
 use Rattle.base.proofs.HandLaws.{told-fits, told-within, fits-reply, fits-output}
-use Rattle.unitlines.proofs.finish.Statement.{statement}
-use Rattle.unitlines.proofs.finish.Tie as tie
+use Rattle.unitlines.proofs.session.finish.Statement.{statement}
+use Rattle.unitlines.proofs.session.finish.Tie as tie
 
 -- a text that was handed over stands in front of the output
 told-text : (text out out′ : List ℕ) (n : ℕ) → accepted n ≡ handedReply text (length out) → out′ ≡ handedOutput text out → take n out′ ≡ text
