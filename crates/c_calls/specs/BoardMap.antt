@@ -2,8 +2,8 @@
 use Prim.Native.Nat.{ℕ, min}
 use mathlib.Core.List.{List}
 use Rattle.base.specs.Reply.{Reply, accepted, refused}
-use Rattle.esc_feedback.specs.Output.{laneOf}
-use Rattle.esc_feedback.specs.declared.output.EscOutput.{EscOutput}
+use Rattle.esc_lanes.specs.Output.{laneOf}
+use Rattle.esc_lanes.specs.declared.output.EscOutput.{EscOutput}
 use Rattle.airframe.specs.Motor.{motorNumber, readMotor}
 use Rattle.airframe.specs.Lane.{readLane}
 use Rattle.airframe.specs.BoardMap.{motorOn, outputWith, readMap}

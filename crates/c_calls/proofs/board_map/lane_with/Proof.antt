@@ -1,7 +1,7 @@
 -- What is read of the map and of the motor, case by case.
 use borrow.Author.Needs.{needs}
 use native.Mathlib.Omega.{arith}
-use Rattle.esc_feedback.proofs.OutputLaws.{lane-below}
+use Rattle.esc_lanes.proofs.OutputLaws.{lane-below}
 use Rattle.c_calls.proofs.BoardMapLaws.{length-before-motor}
 use Rattle.c_calls.proofs.board_map.lane_with.Statement.{statement}
 use Rattle.c_calls.proofs.board_map.lane_with.Tie as tie
