@@ -28,8 +28,9 @@ ABOUT = (
 WIDTH, LEFT, HEIGHT, FOOT = 960, 108, 194, 30
 BYTE, CUT, CALL = 42, 100, 158
 BLUE, GREEN, RED, YELLOW = "#d8e8f6", "#bfe3c5", "#f3c6bf", "#f7e6b5"
-# where a record has its time, and what it is called
+# where a record has its time; what is said to it, no or yes; what it is called
 TIME_AT = {0x01: 1, 0x02: 6, 0x03: 14, 0x04: 1, 0x05: 2, 0x07: 2}
+SAID = {0x02: ("no", "yes"), 0x03: ("rejected", "accepted"), 0x04: ("none", ""), 0x05: ("", ""), 0x06: ("done", ""), 0x07: ("no", "yes")}
 CALLED = {0x01: "who is next? (01)", 0x02: "queue notice (02)", 0x03: "acknowledged (03)", 0x04: "timeout? (04)", 0x06: "cut (06)", 0x07: "recover? (07)"}
 
 
@@ -54,18 +55,24 @@ class Line:
 
     def fed(self):
         """What a box says, but for a byte."""
-        about = {0x02: lambda: arm(self.record, 5), 0x03: lambda: arm(self.record, 5), 0x07: lambda: ["disarmed", "armed"][number(self.record, 1, 1)]}
-        return [CALLED[self.kind], *([about[self.kind]()] if self.kind in about else [])]
+        if self.kind in (0x02, 0x03):
+            return [CALLED[self.kind], arm(self.record, 5)]
+        if self.kind == 0x07:
+            return [CALLED[self.kind], "armed" if number(self.record, 1, 1) else "disarmed"]
+        return [CALLED[self.kind]]
 
     def said(self):
+        """What stands below it."""
         if self.sample:
             warm, volts, amperes, used, speed = (number(self.answer, at, size) for at, size in ((15, 1), (16, 2), (18, 2), (20, 2), (22, 2)))
             return [f"booked to {arm(self.answer, 2)}, at {number(self.answer, 7, 8)}:",
                     f"{warm} °C, {volts / 100:.2f} V, {amperes / 100:.2f} A, {used} mAh, {speed * 100} eRPM"]
         if self.timeout:
-            return ["no response:", arm(self.answer, 6)]
-        words = {0x01: "nobody", 0x03: "accepted", 0x04: "none", 0x05: "", 0x06: "done"}
-        return [words.get(self.kind, "yes" if self.yes else "no")]
+            return [{1: "not started:", 2: "no response:"}[number(self.answer, 1, 1)], arm(self.answer, 6)]
+        if self.kind == 0x01:
+            return [arm(self.answer, 6) if len(self.answer) > 4 else "nobody"]
+        no, yes = SAID[self.kind]
+        return [yes if self.yes else no]
 
 
 def spans(lines):
