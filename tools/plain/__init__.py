@@ -1,2 +1,2 @@
-"""What tools/unitplain is made of, lowest first: tables, decode, session, craft, words; then what it prints: lines, summary,
-readings_csv, picture; and options, the command line."""
+"""What tools/unitplain is made of, lowest first: tables, decode, craft, words, session; then what it prints: lines with its
+summary, readings_csv, picture with its flight, scale and svg; and options, the command line."""

@@ -1,4 +1,5 @@
 """A line to its record or its refusal, and an answer to what it says, by the tables."""
+from functools import lru_cache
 from typing import NamedTuple
 
 from .tables import KINDS, Choice, Form
@@ -58,52 +59,63 @@ class Reader:
         return told
 
 
-def text_refusal(line):
-    """1, 2 or 3, or None for a line that is bytes in hexadecimal."""
-    if len(line) > LONGEST:
-        return 1
+class Refused(Exception):
+    """A line that is not taken, and the lowest number that fits."""
+
+    def __init__(self, number):
+        super().__init__(number)
+        self.number = number
+
+
+def digits(line):
+    """The bytes of a line of hexadecimal."""
     if not DIGITS.issuperset(line):
-        return 2
-    return 3 if len(line) % 2 else None
+        raise Refused(2)
+    if len(line) % 2:
+        raise Refused(3)
+    return bytes.fromhex(line.decode())
 
 
-def field_refusal(kind, data):
-    """6 or 7, the lower first, or None."""
-    reader = Reader(data[1:])
-    numbers = [(field, reader.number(field.size)) for field in kind.fields]
-    return min((field.refusal for field, number in numbers if field.refusal and number > field.limit), default=None)
-
-
-def record_refusal(data, opened):
-    """4 to 8, or None for a record that is taken."""
+def read_bytes(line):
+    """A line's bytes, which begin with a kind."""
+    if len(line) > LONGEST:
+        raise Refused(1)
+    data = digits(line)
     if not data or data[0] not in KINDS:
-        return 4
-    kind = KINDS[data[0]]
-    if len(data) != 1 + sum(field.size for field in kind.fields):
-        return 5
-    return field_refusal(kind, data) or (None if opened or data[0] == 0 else 8)
-
-
-def refusal(line, opened):
-    """The lowest number that fits, or None."""
-    return text_refusal(line) or record_refusal(bytes.fromhex(line.decode()), opened)
+        raise Refused(4)
+    return data
 
 
 def kind_of(line):
     """The code of a line's kind, or None where it has none."""
-    code = int(line[:2], 16) if line and not text_refusal(line) else None
-    return code if code in KINDS else None
+    try:
+        return read_bytes(line)[0]
+    except Refused:
+        return None
 
 
-def fields_of(line):
-    """What an accepted record says."""
-    data = bytes.fromhex(line.decode())
-    kind = KINDS[data[0]]
-    return Reader(data[1:]).whole(Form(kind.words, kind.fields))
+def read_record(line, opened):
+    """A record's kind and fields."""
+    data = read_bytes(line)
+    form, reader = KINDS[data[0]].record, Reader(data[1:])
+    if len(reader.data) != sum(field.size for field in form.parts):
+        raise Refused(5)
+    values = {field.name: reader.number(field.size) for field in form.parts}
+    for number in sorted(field.refusal for field in form.parts if field.refusal and values[field.name] > field.limit):
+        raise Refused(number)
+    if data[0] and not opened:
+        raise Refused(8)
+    return data[0], Told(form, values)
 
 
-def answer_to(code, answer):
+# most answers are one of a few
+@lru_cache(maxsize=256)
+def read_answer(kind, answer):
     """What the answer to an accepted record of a kind says."""
-    if not answer.startswith(b"00") or len(answer) % 2 or not DIGITS.issuperset(answer):
+    try:
+        data = digits(answer)
+    except Refused:
+        raise Unfit from None
+    if data[:1] != b"\0":
         raise Unfit
-    return Reader(bytes.fromhex(answer.decode())[1:]).whole(KINDS[code].answer)
+    return Reader(data[1:]).whole(KINDS[kind].answer)

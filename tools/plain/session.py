@@ -3,8 +3,9 @@ import sys
 from itertools import zip_longest
 from typing import NamedTuple
 
-from .decode import Told, Unfit, answer_to, fields_of, kind_of, refusal
-from .tables import DELIVERED, KINDS, REFUSALS
+from .decode import Refused, Told, Unfit, kind_of, read_answer, read_record
+from .tables import DELIVERED
+from .words import kind_words, refusal_words, shown
 
 OPENING, TIMEOUT, RECOVERY = 0x00, 0x04, 0x07
 
@@ -68,25 +69,17 @@ def numbered(records, answers):
         yield number, record, answer
 
 
-def due(kind, refused):
-    """What an answer should have been."""
-    if refused:
-        return f"its record is refused, {refused}: {REFUSALS[refused]}"
-    return f"its record is accepted: {KINDS[kind].words} ({kind:02x})"
-
-
 def event(number, line, answer, opened):
-    kind, refused = kind_of(line), refusal(line, opened)
-    if not refused:
-        return Event(number, line, kind, None, fields_of(line), answer_to(kind, answer))
-    if answer != b"%02x" % refused:
-        raise Unfit
-    return Event(number, line, kind, refused, None, None)
-
-
-def shown(line):
-    """A line's characters, quoted; of a long one the first."""
-    return repr(line[:60])[1:] + (" .." if len(line) > 60 else "")
+    try:
+        kind, fields = read_record(line, opened)
+    except Refused as refused:
+        if answer != b"%02x" % refused.number:
+            raise Unfit(f"its record is {refusal_words(refused.number)}") from None
+        return Event(number, line, kind_of(line), refused.number, None, None)
+    try:
+        return Event(number, line, kind, None, fields, read_answer(kind, answer))
+    except Unfit:
+        raise Unfit(f"its record is accepted: {kind_words(kind)}") from None
 
 
 def events(records, answers):
@@ -94,8 +87,7 @@ def events(records, answers):
     for number, line, answer in numbered(records, answers):
         try:
             one = event(number, line, answer, opened)
-        except Unfit:
-            why = due(kind_of(line), refusal(line, opened))
+        except Unfit as why:
             raise Fault(f"{called(answers)}: line {number}: {shown(answer)} does not fit, {why}") from None
         opened = opened or one.opens
         yield one

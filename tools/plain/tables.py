@@ -25,8 +25,8 @@ class Choice(NamedTuple):
 
 
 class Kind(NamedTuple):
-    words: str
-    fields: tuple
+    # what follows the kind's byte
+    record: Form
     # what follows the 00 of an accepted answer
     answer: Form | Choice
 
@@ -74,29 +74,30 @@ REPORT = Form("report", (
 FIGURES = Form("figures", (Field("readings", 4), Field("hottest", 1, "°C"), Field("lowest voltage", 2, "0.01 V")))
 
 KINDS = {
-    0x00: Kind("opening", (*milliseconds("boot delay", "period", "acknowledgement timeout", "response timeout", "quiet"), NOW),
-               ACCEPTED),
-    0x01: Kind("question for the request", (NOW,), Choice("said", {0: Form("none"), 1: Form("request", REQUEST)})),
-    0x02: Kind("queue notice", (*REQUEST, NOW), YES_OR_NO),
-    0x03: Kind("acknowledgement", (*REQUEST, Field("started", 8, "time"), NOW),
+    0x00: Kind(Form("opening", (
+        *milliseconds("boot delay", "period", "acknowledgement timeout", "response timeout", "quiet"), NOW)), ACCEPTED),
+    0x01: Kind(Form("question for the request", (NOW,)), Choice("said", {0: Form("none"), 1: Form("request", REQUEST)})),
+    0x02: Kind(Form("queue notice", (*REQUEST, NOW)), YES_OR_NO),
+    0x03: Kind(Form("acknowledgement", (*REQUEST, Field("started", 8, "time"), NOW)),
                Choice("said", {0: Form("rejected"), 1: Form("accepted"), 2: DELIVERED})),
-    0x04: Kind("look for a timeout", (NOW,), Choice("said", {
+    0x04: Kind(Form("look for a timeout", (NOW,)), Choice("said", {
         0: Form("none"),
         1: Form("acknowledgement timeout", REQUEST),
         2: Form("response timeout", REQUEST),
     })),
-    0x05: Kind("wire byte", (Field("byte", 1, "byte"), NOW), Choice("said", {0: Form("no reading"), 2: DELIVERED})),
-    0x06: Kind("cut", (), ACCEPTED),
-    0x07: Kind("try to recover", (Field("armed", 1, "armed", limit=1, refusal=7), NOW), YES_OR_NO),
-    0x08: Kind("question for ended retries", (), Choice("said", {0: Form("none"), 1: Form("ended", counts("retries"))})),
-    0x09: Kind("renewal of the counts", (), ACCEPTED),
-    0x0a: Kind("new idle check",
-               (Field("min", 2, "100 eRPM"), Field("max", 2, "100 eRPM"), *milliseconds("grace", "timeout", "age"),
-                Field("required", 1), NOW), ACCEPTED),
-    0x0b: Kind("question for the idle check", (NOW,), STATUS),
-    0x0c: Kind("question for the report", (), REPORT),
-    0x0d: Kind("question for the stored reading", (LANE,), Choice("said", {0: Form("none"), 1: Form("stored reading", SAMPLE)})),
-    0x0e: Kind("question for the figures", (LANE,), FIGURES),
+    0x05: Kind(Form("wire byte", (Field("byte", 1, "byte"), NOW)), Choice("said", {0: Form("no reading"), 2: DELIVERED})),
+    0x06: Kind(Form("cut"), ACCEPTED),
+    0x07: Kind(Form("try to recover", (Field("armed", 1, "armed", limit=1, refusal=7), NOW)), YES_OR_NO),
+    0x08: Kind(Form("question for ended retries"), Choice("said", {0: Form("none"), 1: Form("ended", counts("retries"))})),
+    0x09: Kind(Form("renewal of the counts"), ACCEPTED),
+    0x0a: Kind(Form("new idle check", (
+        Field("min", 2, "100 eRPM"), Field("max", 2, "100 eRPM"), *milliseconds("grace", "timeout", "age"),
+        Field("required", 1), NOW)), ACCEPTED),
+    0x0b: Kind(Form("question for the idle check", (NOW,)), STATUS),
+    0x0c: Kind(Form("question for the report"), REPORT),
+    0x0d: Kind(Form("question for the stored reading", (LANE,)),
+               Choice("said", {0: Form("none"), 1: Form("stored reading", SAMPLE)})),
+    0x0e: Kind(Form("question for the figures", (LANE,)), FIGURES),
 }
 
 # the numbers that a line can be refused with

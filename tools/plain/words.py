@@ -1,7 +1,6 @@
 """Records and answers in words."""
 from .decode import Told
-from .session import shown
-from .tables import KINDS, READING, REFUSALS
+from .tables import KINDS, NOW, READING, REFUSALS
 
 # units whose words say what the number is
 TELLING = {"lane", "byte", "armed", *(f"on lane {lane}" for lane in range(4))}
@@ -44,28 +43,31 @@ def part_words(part, value, craft):
     return words if part in READING or part.unit in TELLING else f"{part.name} {words}"
 
 
-def told_words(told, craft, without=()):
-    """A form's words, then its parts."""
-    parts = [part_words(part, told.values[part.name], craft) for part in told.form.parts if part.name not in without]
-    return ": ".join([told.form.words, ", ".join(parts)] if parts else [told.form.words])
+def told_words(told, craft, words=None):
+    """A form's words, or others, then its parts. A record's time has a column of its own."""
+    parts = [part_words(part, told.values[part.name], craft) for part in told.form.parts if part is not NOW]
+    return (words or told.form.words) + (": " + ", ".join(parts) if parts else "")
+
+
+def shown(line):
+    """A line's characters, quoted; of a long one the first."""
+    return repr(line[:60])[1:] + (" .." if len(line) > 60 else "")
 
 
 def kind_words(kind):
-    return f"{KINDS[kind].words} ({kind:02x})"
-
-
-def record_words(event, craft):
-    """A record's kind and fields, but for its time; of one that is refused the kind, or the line as it stands."""
-    if event.kind is None:
-        return shown(event.line) if event.line else "an empty line"
-    kind = kind_words(event.kind)
-    if event.refused:
-        return kind
-    return kind + told_words(event.fields, craft, without=("now",)).removeprefix(event.fields.form.words)
+    return f"{KINDS[kind].record.words} ({kind:02x})"
 
 
 def refusal_words(number):
     return f"refused, {number}: {REFUSALS[number]}"
+
+
+def record_words(event, craft):
+    """A record's kind and fields; of one that is refused its kind, or the line as it stands."""
+    if event.kind is None:
+        return shown(event.line) if event.line else "an empty line"
+    kind = kind_words(event.kind)
+    return kind if event.refused else told_words(event.fields, craft, kind)
 
 
 def answer_words(event, craft):
