@@ -2,7 +2,8 @@
 """tools/unitplain, on stored sessions and on bad input.
 
 What it must print is written by hand in tests/plain/*-plain.txt, from docs/RECORDS.md; wire bytes that bring no reading are
-left out there and made from their digits. The CSV and the picture are compared with the numbers of the digits.
+left out there and made from their digits. The CSV and the picture are compared with the numbers of the digits. What
+docs/OPERATIONS.md shows is printed.
 tests/plain/every-kind.txt has every kind, every form of answer and every number that refuses a line; its answers are the
 Rust reference's.
 """
@@ -38,10 +39,19 @@ def every_kind():
             fail(f"every-kind-plain.txt has no {words}")
 
 
+def quoted():
+    """The lines of the block in docs/OPERATIONS.md are printed for docs/four-arms.txt, in their order."""
+    lines = iter(printed(*SESSIONS["four-arms"][1], *files("four-arms")).splitlines())
+    for line in (DOCS / "OPERATIONS.md").read_text().split("\n```\n")[1].splitlines():
+        if line not in lines:
+            fail(f"docs/OPERATIONS.md: not printed, or not there: {line}")
+
+
 def main():
     for name in SESSIONS:
         rendered(name)
     every_kind()
+    quoted()
     sessions = [*map(files, SESSIONS), REPLAY]
     rows = sum(table(*session) for session in sessions)
     for session in sessions:

@@ -45,8 +45,6 @@ def bad_files(folder):
         records.write_bytes(one)
         answers.write_bytes(other)
         refuses(1, *words, arguments=[records, answers], output=output)
-        for form in ("--csv", "--svg"):
-            refuses(1, *words, arguments=[form, records, answers])
 
     refuses(1, f"{records}: No such file", arguments=[records, answers], output="")
     refuses(1, f"{folder}: Is a directory", arguments=[folder, answers], output="")
@@ -58,6 +56,8 @@ def bad_files(folder):
     pair(b"06\n06\r\n", b"08\n00\n", f"{answers}: line 2: '00' does not fit", "refused, 2", output=first)
     pair(b"06\n06\n", b"08\n\xff\xfe\n", f"{answers}: line 2: '\\xff\\xfe' does not fit", output=first)
     pair(b"06\n", b"0" * 1_000_000 + b"\n", f"{answers}: line 1: '{'0' * 60}' ..", output="")
+    for form in ("--csv", "--svg"):
+        refuses(1, f"{answers}: line 1", arguments=[form, records, answers])
 
 
 def usage():
@@ -71,7 +71,7 @@ def usage():
 
 
 def edges(folder):
-    """Standard input for either file, no lines at all, no last LF, an output that can't be written."""
+    """Standard input for either file, no lines at all, no last LF, an odd name, an output that can't be written."""
     records, answers = files("session")
     whole = printed(records, answers)
     for arguments, text in ((["-", answers], records), ([records, "-"], answers)):
@@ -85,6 +85,9 @@ def edges(folder):
     for text, cut in ((records, folder / "cut.txt"), (answers, folder / "cut-answers.txt")):
         cut.write_bytes(text.read_bytes().removesuffix(b"\n"))
     expect(whole, printed(folder / "cut.txt", folder / "cut-answers.txt"), "no last LF")
+    named = folder / "a & b <c> \".txt"
+    named.write_bytes(records.read_bytes())
+    expect(f"Readings of {named}", xml.fromstring(printed("--svg", named, answers))[0].text, "a name with marks")
     with open("/dev/full", "wb") as full:
         done = subprocess.run([TOOLS / "unitplain", records, answers], stdout=full, stderr=subprocess.PIPE, timeout=60)
     expect((1, b"unitplain: standard output: No space left on device\n"), (done.returncode, done.stderr), "a full disk")

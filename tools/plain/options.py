@@ -51,7 +51,8 @@ def write(options):
 def main():
     # a reader that has seen enough, such as head, ends this too
     signal.signal(signal.SIGPIPE, signal.SIG_DFL)
-    sys.stdout.reconfigure(encoding="utf-8", newline="\n")
+    # a file's name may be no text
+    sys.stdout.reconfigure(encoding="utf-8", errors="backslashreplace", newline="\n")
     arguments = parser()
     options = arguments.parse_args()
     if options.records == options.answers == "-":

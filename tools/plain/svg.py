@@ -1,12 +1,12 @@
 """The few elements of SVG that a picture needs."""
-from xml.sax.saxutils import escape, quoteattr
+from html import escape
 
 INK, GREY, PALE, BLUE, RED, GREEN = "#1b1b1b", "#5a5a5a", "#d4d4d4", "#1f5fa8", "#c0311a", "#1d7a34"
 MANY = 200
 
 
 def element(name, content="", **attributes):
-    written = "".join(f" {key.replace('_', '-')}={quoteattr(str(value))}" for key, value in attributes.items())
+    written = "".join(f" {key.replace('_', '-')}=\"{escape(str(value))}\"" for key, value in attributes.items())
     return f"<{name}{written}>{content}</{name}>" if content else f"<{name}{written}/>"
 
 
