@@ -12,6 +12,14 @@ class Unfit(Exception):
     """The bytes are not what the table has."""
 
 
+class Refused(Exception):
+    """A line that is not taken, and the lowest number that fits."""
+
+    def __init__(self, number):
+        super().__init__(number)
+        self.number = number
+
+
 class Told(NamedTuple):
     """A form, and the value of each of its parts by name."""
     form: Form
@@ -59,14 +67,6 @@ class Reader:
         return told
 
 
-class Refused(Exception):
-    """A line that is not taken, and the lowest number that fits."""
-
-    def __init__(self, number):
-        super().__init__(number)
-        self.number = number
-
-
 def digits(line):
     """The bytes of a line of hexadecimal."""
     if not DIGITS.issuperset(line):
@@ -101,8 +101,9 @@ def read_record(line, opened):
     if len(reader.data) != sum(field.size for field in form.parts):
         raise Refused(5)
     values = {field.name: reader.number(field.size) for field in form.parts}
-    for number in sorted(field.refusal for field in form.parts if field.refusal and values[field.name] > field.limit):
-        raise Refused(number)
+    above = [field.refusal for field in form.parts if field.refusal and values[field.name] > field.limit]
+    if above:
+        raise Refused(min(above))
     if data[0] and not opened:
         raise Refused(8)
     return data[0], Told(form, values)

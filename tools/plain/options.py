@@ -9,7 +9,7 @@ from .craft import Craft, board_map, magnets
 from .session import Fault, called, events
 
 ABOUT = """A session in plain words: a line for each record with its answer, and at the end a summary for each lane with what
-was refused. RECORDS is the text that was fed to unitlines, ANSWERS what it printed; - is standard input, for one of them."""
+was refused. - is standard input, for one of the two files."""
 END = """Ends with 0; with 1 and a message where a file can't be read or an answer does not fit its record; with 2 where it is
 called wrongly. See docs/OPERATIONS.md."""
 
@@ -26,8 +26,8 @@ def checked(read):
 
 def parser():
     made = argparse.ArgumentParser(prog="unitplain", description=ABOUT, epilog=END, allow_abbrev=False)
-    made.add_argument("records", metavar="RECORDS")
-    made.add_argument("answers", metavar="ANSWERS")
+    made.add_argument("records", metavar="RECORDS", help="the file that unitlines was given")
+    made.add_argument("answers", metavar="ANSWERS", help="what it printed")
     form = made.add_mutually_exclusive_group()
     form.add_argument("--csv", action="store_true", help="print the readings alone, as CSV")
     form.add_argument("--svg", action="store_true", help="print a picture of the readings and faults, as SVG")
