@@ -1,8 +1,8 @@
 #!/usr/bin/env python3
 """The sessions in the documents are what the program prints.
 
-Each NAME-answers.txt in docs/ and tests/plain/ is the output for NAME.txt beside it; the table of README.md and the numbered lines of docs/BOOKING.md
-are lines of such a session; docs/request.svg is what docs/draw.py draws.
+Each NAME-answers.txt in docs/ and tests/plain/ is the output for NAME.txt beside it; the table of README.md and the numbered
+lines of docs/BOOKING.md are lines of such a session; docs/request.svg is what docs/draw.py draws.
 
     python3 tests/sessions.py target/bin/unitlines
 """
