@@ -1,8 +1,8 @@
 #!/usr/bin/env python3
 """The sessions in the documents are what the program prints.
 
-Each docs/NAME-answers.txt is the output for docs/NAME.txt; the table of README.md and the numbered lines of docs/BOOKING.md
-are lines of such a session; docs/request.svg is what docs/draw.py draws.
+Each NAME-answers.txt in docs/ and tests/plain/ is the output for NAME.txt beside it; the table of README.md and the numbered
+lines of docs/BOOKING.md are lines of such a session; docs/request.svg is what docs/draw.py draws.
 
     python3 tests/sessions.py target/bin/unitlines
 """
@@ -23,9 +23,9 @@ def lines(name):
 
 def printed(program):
     """How many sessions there are, each printed as it is stored."""
-    stored = sorted(DOCS.glob("*-answers.txt"))
+    stored = sorted([*DOCS.glob("*-answers.txt"), *(ROOT / "tests/plain").glob("*-answers.txt")])
     for answers in stored:
-        session = DOCS / (answers.name.removesuffix("-answers.txt") + ".txt")
+        session = answers.with_name(answers.name.removesuffix("-answers.txt") + ".txt")
         done = subprocess.run([program], input=session.read_bytes(), capture_output=True, timeout=60)
         if done.returncode or done.stderr or done.stdout != answers.read_bytes():
             sys.exit(f"sessions: {session.name} does not print {answers.name}")
