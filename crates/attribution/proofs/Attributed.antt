@@ -62,7 +62,8 @@ module _ (o : Opening) (l : Log) (h : Past) (e : LogEntry) (i : Stands l h) (una
 
   -- a frame end leaves the wire clean; any other byte comes while a request is open and has no frame
   byte-silent : (b : ℕ)
-      → Shows (e .seen) none (some (record { value = b; at = e .seen .now })) (bookedTo (startedRequest h) (timed (frameAt (wire h) b) (e .seen .now))) none false
+      → Shows (e .seen) none (some (record { value = b; at = e .seen .now })) (bookedTo (startedRequest h) (timed (frameAt (wire h) b)
+      (e .seen .now))) none false
       → Silent (e .seen ∷ h)
   unfolding openRequest faulted latestFrame
   byte-silent b s = go (frameAt (wire h) b) refl

@@ -8,7 +8,19 @@ use Rattle.blheli_telemetry.specs.Crc.{crcBit, crcBits, crcByte, crcFrom, crcOf
 use Rattle.blheli_telemetry.specs.Frame.{telemetryOf, payloadOf}
 use Rattle.base.specs.Due.{due}
 use Rattle.esc_records.specs.Record.{recordOf, readRecord}
-use Rattle.esc_records.specs.Answer.{requestBytes, sampleBytes, deliveredBytes, failureBytes, idleBytes, nextBytes, ackBytes, wireBytes, timeoutBytes, bodyBytes, answerBytes}
+use Rattle.esc_records.specs.Answer.{
+  requestBytes,
+  sampleBytes,
+  deliveredBytes,
+  failureBytes,
+  idleBytes,
+  nextBytes,
+  ackBytes,
+  wireBytes,
+  timeoutBytes,
+  bodyBytes,
+  answerBytes,
+}
 use Rattle.booking.specs.History.{since}
 use Rattle.booking.specs.Wire.{wire, latest, frameAt}
 use Rattle.booking.specs.Booking.{openRequest, startedAt, latestFrame, newlyStarted, startedRequest}
@@ -61,7 +73,10 @@ pub record Live : Type 0 where
   pub noisy-by-cuts : Newest noisy CameFrom
 
 pub live : Live
-unfolding numberAt bytesOf crcBit crcBits crcByte crcFrom crcOf telemetryOf payloadOf due recordOf readRecord requestBytes sampleBytes deliveredBytes failureBytes idleBytes nextBytes ackBytes wireBytes timeoutBytes bodyBytes answerBytes since wire latest frameAt openRequest startedAt latestFrame newlyStarted startedRequest faulted quietSince retries timeoutFor recovers note turn lastQueued existing check verdict streak judged ruleFor traceMarked logOf sinceIn requests sentBy atRecovery atOpening always latestT lastHeard
+unfolding numberAt bytesOf crcBit crcBits crcByte crcFrom crcOf telemetryOf payloadOf due recordOf readRecord requestBytes sampleBytes deliveredBytes
+    failureBytes idleBytes nextBytes ackBytes wireBytes timeoutBytes bodyBytes answerBytes since wire latest frameAt openRequest startedAt latestFrame
+    newlyStarted startedRequest faulted quietSince retries timeoutFor recovers note turn lastQueued existing check verdict streak judged ruleFor
+    traceMarked logOf sinceIn requests sentBy atRecovery atOpening always latestT lastHeard
 live =
     record {
       flight-comes = row flight;

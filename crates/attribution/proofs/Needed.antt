@@ -9,7 +9,19 @@ use Rattle.blheli_telemetry.specs.Crc.{crcBit, crcBits, crcByte, crcFrom, crcOf
 use Rattle.blheli_telemetry.specs.Frame.{telemetryOf, payloadOf}
 use Rattle.base.specs.Due.{due}
 use Rattle.esc_records.specs.Record.{recordOf, readRecord}
-use Rattle.esc_records.specs.Answer.{requestBytes, sampleBytes, deliveredBytes, failureBytes, idleBytes, nextBytes, ackBytes, wireBytes, timeoutBytes, bodyBytes, answerBytes}
+use Rattle.esc_records.specs.Answer.{
+  requestBytes,
+  sampleBytes,
+  deliveredBytes,
+  failureBytes,
+  idleBytes,
+  nextBytes,
+  ackBytes,
+  wireBytes,
+  timeoutBytes,
+  bodyBytes,
+  answerBytes,
+}
 use Rattle.booking.specs.History.{since}
 use Rattle.booking.specs.Wire.{wire, latest, frameAt}
 use Rattle.booking.specs.Booking.{openRequest, startedAt, latestFrame, newlyStarted, startedRequest}
@@ -24,7 +36,28 @@ use Rattle.attribution.specs.Clock.{latestT}
 use Rattle.attribution.specs.Times.{lastHeard}
 use Rattle.attribution.specs.Attributed.{CameFrom}
 use Rattle.attribution.proofs.ByRule.{traceMarked}
-use Rattle.attribution.proofs.Lists.{openingWith, opening, queue, acknowledge, poll, cut, recover, ask, zeros, e1, e2, e3, e4, e5, clock, answer, reopening, cutting, Row, row}
+use Rattle.attribution.proofs.Lists.{
+  openingWith,
+  opening,
+  queue,
+  acknowledge,
+  poll,
+  cut,
+  recover,
+  ask,
+  zeros,
+  e1,
+  e2,
+  e3,
+  e4,
+  e5,
+  clock,
+  answer,
+  reopening,
+  cutting,
+  Row,
+  row,
+}
 use Rattle.attribution.proofs.Newest.{Refuted}
 use Rattle.attribution.proofs.Refuted.{not-from}
 
@@ -86,7 +119,10 @@ pub record Needed : Type 0 where
   pub reopened-wrong : Refuted CameFrom reopened
 
 pub needed : Needed
-unfolding numberAt bytesOf crcBit crcBits crcByte crcFrom crcOf telemetryOf payloadOf due recordOf readRecord requestBytes sampleBytes deliveredBytes failureBytes idleBytes nextBytes ackBytes wireBytes timeoutBytes bodyBytes answerBytes since wire latest frameAt openRequest startedAt latestFrame newlyStarted startedRequest faulted quietSince retries timeoutFor recovers note turn lastQueued existing check verdict streak judged ruleFor traceMarked logOf sinceIn requests sentBy atRecovery atOpening always latestT lastHeard
+unfolding numberAt bytesOf crcBit crcBits crcByte crcFrom crcOf telemetryOf payloadOf due recordOf readRecord requestBytes sampleBytes deliveredBytes
+    failureBytes idleBytes nextBytes ackBytes wireBytes timeoutBytes bodyBytes answerBytes since wire latest frameAt openRequest startedAt latestFrame
+    newlyStarted startedRequest faulted quietSince retries timeoutFor recovers note turn lastQueued existing check verdict streak judged ruleFor
+    traceMarked logOf sinceIn requests sentBy atRecovery atOpening always latestT lastHeard
 needed =
     record {
       noise-comes = row noise;

@@ -12,7 +12,19 @@ use Rattle.blheli_telemetry.specs.Frame.{telemetryOf, payloadOf}
 use Rattle.base.specs.Due.{due}
 use Rattle.esc_feedback.specs.Config.{legacyUart}
 use Rattle.esc_records.specs.Record.{recordOf, readRecord}
-use Rattle.esc_records.specs.Answer.{requestBytes, sampleBytes, deliveredBytes, failureBytes, idleBytes, nextBytes, ackBytes, wireBytes, timeoutBytes, bodyBytes, answerBytes}
+use Rattle.esc_records.specs.Answer.{
+  requestBytes,
+  sampleBytes,
+  deliveredBytes,
+  failureBytes,
+  idleBytes,
+  nextBytes,
+  ackBytes,
+  wireBytes,
+  timeoutBytes,
+  bodyBytes,
+  answerBytes,
+}
 use Rattle.booking.specs.History.{since}
 use Rattle.booking.specs.Wire.{wire, latest, frameAt}
 use Rattle.booking.specs.Booking.{openRequest, startedAt, latestFrame, newlyStarted, startedRequest}
@@ -31,7 +43,27 @@ use Rattle.base.specs.Bytes.{areBytes}
 use Rattle.booking.specs.FirstNine.{ofBytes}
 use Rattle.attribution.specs.NeverAnotherArm.{NoOtherArm}
 use Rattle.attribution.proofs.ByRule.{traceMarked}
-use Rattle.attribution.proofs.Lists.{unmarked, openingPaced, queue, acknowledge, poll, cut, recover, ask, zeros, booked, arms, Name, clock, cutting, askedInTime, spacing, paceFails, ruleLog, by-rule}
+use Rattle.attribution.proofs.Lists.{
+  unmarked,
+  openingPaced,
+  queue,
+  acknowledge,
+  poll,
+  cut,
+  recover,
+  ask,
+  zeros,
+  booked,
+  arms,
+  Name,
+  clock,
+  cutting,
+  askedInTime,
+  spacing,
+  paceFails,
+  ruleLog,
+  by-rule,
+}
 use Rattle.attribution.proofs.Newest.{Newest, newest-by, Refuted}
 use Rattle.attribution.proofs.OtherArm.{other-arm}
 use Rattle.attribution.proofs.NeverAnotherArm.{never-another-arm}
@@ -137,7 +169,10 @@ pub record PaceLists : Type 0 where
   pub bytes-wrong : Refuted NoOtherArm noBytes
 
 pub pace-lists : PaceLists
-unfolding numberAt bytesOf crcBit crcBits crcByte crcFrom crcOf telemetryOf payloadOf due recordOf readRecord requestBytes sampleBytes deliveredBytes failureBytes idleBytes nextBytes ackBytes wireBytes timeoutBytes bodyBytes answerBytes since wire latest frameAt openRequest startedAt latestFrame newlyStarted startedRequest faulted quietSince retries timeoutFor recovers note turn lastQueued existing check verdict streak judged ruleFor traceMarked logOf sinceIn requests takenSince always latestT queuedAt areBytes ofBytes
+unfolding numberAt bytesOf crcBit crcBits crcByte crcFrom crcOf telemetryOf payloadOf due recordOf readRecord requestBytes sampleBytes deliveredBytes
+    failureBytes idleBytes nextBytes ackBytes wireBytes timeoutBytes bodyBytes answerBytes since wire latest frameAt openRequest startedAt latestFrame
+    newlyStarted startedRequest faulted quietSince retries timeoutFor recovers note turn lastQueued existing check verdict streak judged ruleFor
+    traceMarked logOf sinceIn requests takenSince always latestT queuedAt areBytes ofBytes
 pace-lists =
     record {
       flight-comes = row noisyFlight;

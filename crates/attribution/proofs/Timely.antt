@@ -28,7 +28,21 @@ use Rattle.attribution.proofs.LawfulLog.{Lawful}
 use Rattle.attribution.proofs.Steps.{Shows, Step, plain, grants, takes, answers, ends, restarts}
 use Rattle.attribution.proofs.Since.{requests-keep}
 use Rattle.attribution.proofs.Along.{openingOf, along}
-use Rattle.attribution.proofs.Heard.{earlier, clock-grows, clock-now, stamped-grant, stamped-byte, stamped-timeout, stamped-recovery, earlier-keeps, heard-keeps, heard-grant, heard-byte, fault-keeps, quiet-grows}
+use Rattle.attribution.proofs.Heard.{
+  earlier,
+  clock-grows,
+  clock-now,
+  stamped-grant,
+  stamped-byte,
+  stamped-timeout,
+  stamped-recovery,
+  earlier-keeps,
+  heard-keeps,
+  heard-grant,
+  heard-byte,
+  fault-keeps,
+  quiet-grows,
+}
 
 -- nothing was heard after the quiet start, nor within the quiet time before a recovery or an opening of the requests before it
 pub record Timely (l : Log) (h : Past) (quiet : ℕ) : Type 0 where

@@ -12,7 +12,8 @@ use Rattle.attribution.specs.Marks.{LogEntry}
 use Rattle.attribution.proofs.Latest.{Clean, latest-none}
 
 -- without a byte, a wire is as it was or cut
-pub wire-same : (h : Past) (e : LogEntry) → e .seen .wire .byte ≡ none → (c : Bool) → e .seen .wire .cut ≡ c → wire (e .seen ∷ h) ≡ pick c (cut ∷ wire h) (wire h)
+pub wire-same : (h : Past) (e : LogEntry) → e .seen .wire .byte ≡ none → (c : Bool) → e .seen .wire .cut ≡ c → wire (e .seen ∷ h) ≡ pick c (cut ∷ wire
+    h) (wire h)
 unfolding wire
 wire-same h e b true x = rw (b, x)
 wire-same h e b false x = rw (b, x)

@@ -41,7 +41,15 @@ overwrite-last : (at : ℕ) (b : List ℕ) (x : ℕ) (s : List ℕ) → at + len
 unfolding overwrite
 overwrite-last at b x s h =
     let l : at ≤ at + length b = omega arith in
-    rw (take-set-le at s (at + length b) x l, drop-set (at + length b) s x h, length-append b (x ∷ []), append-assoc b (x ∷ []), add-suc (length b), add-zero (length b), add-suc at)
+    rw (
+      take-set-le at s (at + length b) x l,
+      drop-set (at + length b) s x h,
+      length-append b (x ∷ []),
+      append-assoc b (x ∷ []),
+      add-suc (length b),
+      add-zero (length b),
+      add-suc at,
+    )
 
 -- a number's lowest byte is stored, and its other bytes are left to store before it
 pub lowest-stored : (at left rest : ℕ) (s : List ℕ) → 0 < left → at + left ≤ length s

@@ -74,7 +74,8 @@ module _ (p : StreamParser) (b : ℕ) (ten : length (p .bytes) ≡ 10) where
   given-by-held =
       below-or-not (p .len) 9
       (λ h. rw (push-few p b (lt-ltb _ _ h), lt-ltb _ _ (few-length h)))
-      (λ h. rw (push-tenth p b (le-ltb _ _ h), le-ltb _ _ (nine-length h), filled h) (completed-given (held p ++ b ∷ []) (p .stats) (readFrame (held p ++ b ∷ []))))
+      (λ h. rw (push-tenth p b (le-ltb _ _ h), le-ltb _ _ (nine-length h), filled h) (completed-given (held p ++ b ∷ []) (p .stats) (readFrame (held p
+      ++ b ∷ []))))
 
   pub held-by-held : held (pushOf p b .parser) ≡ heldAfter (held p) b
   unfolding heldAfter

@@ -53,7 +53,12 @@ books-new = record { samples = refl; idle = idle-none (noBooks .idle); figures =
 -- figures
 add-is : (u : EscTelemetryUpdate) (us : List EscTelemetryUpdate) → withSample (figureOf us) (u .observation .sample) ≡ figureOf (u ∷ us)
 unfolding withSample figureOf hottest lowest
-add-is u [] = let e : u .observation .sample .«temperature_c» ≡ max 0 (u .observation .sample .«temperature_c») = omega arith in λ j. record { samples = 1; «hottest_c» = e j; «lowest_cv» = u .observation .sample .«voltage_cv» }
+add-is u [] = let e : u .observation .sample .«temperature_c» ≡ max 0 (u .observation .sample .«temperature_c») = omega arith in λ j. record {
+  samples
+      = 1;
+  «hottest_c» = e j;
+  «lowest_cv» = u .observation .sample .«voltage_cv»;
+}
 add-is u (v ∷ us) =
     let some-are : eqb (min (suc (length us)) (2 ^ 32 - 1)) 0 ≡ false = ne-eqb (min (suc (length us)) (2 ^ 32 - 1)) 0 (λ z. omega arith) in
     let e : min (min (suc (length us)) (2 ^ 32 - 1) + 1) (2 ^ 32 - 1) ≡ min (suc (suc (length us))) (2 ^ 32 - 1) = omega arith in
@@ -176,7 +181,12 @@ module _ (h : Past) (b : Books) (i : BooksAt h b) where
   -- what shows no sample, no status, no 0a
   pub same : (e : Seen) → e .requests .delivered ≡ none → e .requests .recovered ≡ false → e .idle .check ≡ none → e .idle .status ≡ none → BooksAt (e ∷ h) b
   same e d r c s =
-      record { samples = i .samples ∙ samples-same h e d r; idle = idle-same h (b .checking) (b .idle) e c s (i .idle); figures = i .figures ∙ figures-same h e d }
+      record {
+        samples = i .samples ∙ samples-same h e d r;
+        idle = idle-same h (b .checking) (b .idle) e c s (i .idle);
+        figures = i .figures ∙
+            figures-same h e d;
+      }
 
   -- 07 answered yes
   pub dropped : (e : Seen) → e .requests .delivered ≡ none → e .requests .recovered ≡ true → e .idle .check ≡ none → e .idle .status ≡ none

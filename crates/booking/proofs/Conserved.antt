@@ -63,7 +63,8 @@ acked-balance o h k now (some q) e none says b = omega (arith, b)
 acked-balance o h k now (some q) e (some f) says b = omega (arith, b, ap one (only-open (openRequest h) _ q e))
 
 byte-balance : (o : Opening) (h : Past) (x now : ℕ) (q : Option EscActuatorRequest) → startedRequest h ≡ q
-    → (f : Option Frame) (says : EscTelemetryUpdate → IdleAnswer) → Balanced h → Balanced (seen (kind.WireByte x now) (answer.Wire (wireAnswerOf (bookedTo q f) says)) ∷ h)
+    → (f : Option Frame) (says : EscTelemetryUpdate → IdleAnswer) → Balanced h → Balanced (seen (kind.WireByte x now) (answer.Wire (wireAnswerOf
+    (bookedTo q f) says)) ∷ h)
 unfolding count openRequest startedRequest
 byte-balance o h x now none e f says b = omega (arith, b)
 byte-balance o h x now (some q) e none says b = omega (arith, b)

@@ -98,7 +98,11 @@ module _ (c : EscIdleQualificationConfig) (now : ℕ) (all : List EscTelemetryUp
       let w = i .whole in
       record {
         enough = rw (w, length-append) (omega arith);
-        within = λ v m. i .within v (mem-take (c .«required_consecutive_samples») (u ∷ us) v (rw (w, take-append-le (c .«required_consecutive_samples») (u ∷ us) (i .before) n) at m));
+        within = λ v m. i .within v (mem-take (c .«required_consecutive_samples») (u ∷ us) v (rw (
+          w,
+          take-append-le
+              (c .«required_consecutive_samples») (u ∷ us) (i .before) n,
+        ) at m));
         newest = u;
         older = us ++ i .before;
         last = w;
@@ -113,5 +117,6 @@ module _ (c : EscIdleQualificationConfig) (now : ℕ) (all : List EscTelemetryUp
       go true d = let z : [] ≡ u ∷ older = rw d at e in absurd (let y : _≡_ {A = ℕ} 0 1 = cc in omega arith)
       go false d = let z : v ∷ us ≡ u ∷ older = rw d at e in let y : v ≡ u = cc in rw y at d
 
-  pub fresh-justified : (us : List EscTelemetryUpdate) → Newest c (fresh c now us) all → c .«required_consecutive_samples» ≤ tally (fresh c now us) → Justified c now all
+  pub fresh-justified : (us : List EscTelemetryUpdate) → Newest c (fresh c now us) all → c .«required_consecutive_samples» ≤ tally (fresh c now us) →
+      Justified c now all
   fresh-justified us i n = justified (fresh c now us) i (omega arith) (still-fresh us)

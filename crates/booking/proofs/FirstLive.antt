@@ -13,7 +13,20 @@ use Rattle.base.specs.Due.{due}
 use Rattle.esc_lanes.specs.declared.output.Lane.the-variants.{Output2}
 use Rattle.esc_lanes.specs.declared.request.EscActuatorRequest.{EscActuatorRequest}
 use Rattle.esc_records.specs.Record.{recordOf, readRecord}
-use Rattle.esc_records.specs.Answer.{requestBytes, sampleBytes, deliveredBytes, failureBytes, idleBytes, nextBytes, ackBytes, wireBytes, timeoutBytes, bodyBytes, answerBytes, replyBytes}
+use Rattle.esc_records.specs.Answer.{
+  requestBytes,
+  sampleBytes,
+  deliveredBytes,
+  failureBytes,
+  idleBytes,
+  nextBytes,
+  ackBytes,
+  wireBytes,
+  timeoutBytes,
+  bodyBytes,
+  answerBytes,
+  replyBytes,
+}
 use Rattle.esc_records.specs.declared.answer.IdleAnswer.the-variants.{NoCheck}
 use Rattle.booking.specs.History.{since}
 use Rattle.booking.specs.Wire.{Frame, wire, latest, frameAt}
@@ -64,7 +77,10 @@ pub first-live : (ofBytes (map roomy (started ++ tenth ∷ [])) ≡ true)
     × (sampleHolds second given NoCheck ≡ answer)
     × (lastReply (started ++ tenth ∷ []) ≡ answer)
     × (lastReply (held ++ acks ∷ []) ≡ answer)
-unfolding numberAt bytesOf crcBit crcBits crcByte crcFrom crcOf telemetryOf payloadOf due recordOf readRecord requestBytes sampleBytes deliveredBytes failureBytes idleBytes nextBytes ackBytes wireBytes timeoutBytes bodyBytes answerBytes replyBytes since wire latest frameAt openRequest startedAt latestFrame newlyStarted startedRequest faulted quietSince retries timeoutFor recovers note turn lastQueued existing check verdict streak judged ruleFor traceOf areBytes ofBytes
+unfolding numberAt bytesOf crcBit crcBits crcByte crcFrom crcOf telemetryOf payloadOf due recordOf readRecord requestBytes sampleBytes deliveredBytes
+    failureBytes idleBytes nextBytes ackBytes wireBytes timeoutBytes bodyBytes answerBytes replyBytes since wire latest frameAt openRequest startedAt
+    latestFrame newlyStarted startedRequest faulted quietSince retries timeoutFor recovers note turn lastQueued existing check verdict streak judged
+    ruleFor traceOf areBytes ofBytes
 first-live = (refl, refl, refl, refl, refl, refl)
 
 -- a record with 100 (hexadecimal) where a byte should be: the frame has it, and the answer has 00
@@ -80,5 +96,8 @@ widest = byte 2 (crcOf wide)
 pub bytes-needed : (ofBytes (map roomy widely) ≡ false)
     × (frameFor (pastBy widely) (recordOf widest) ≡ some (record { bytes = wide ++ crcOf wide ∷ []; at = 2 }))
     × (take 9 (drop 15 (lastReply (widely ++ widest ∷ []))) ≡ replicate 9 0x00)
-unfolding numberAt bytesOf crcBit crcBits crcByte crcFrom crcOf telemetryOf payloadOf due recordOf readRecord requestBytes sampleBytes deliveredBytes failureBytes idleBytes nextBytes ackBytes wireBytes timeoutBytes bodyBytes answerBytes replyBytes since wire latest frameAt openRequest startedAt latestFrame newlyStarted startedRequest faulted quietSince retries timeoutFor recovers note turn lastQueued existing check verdict streak judged ruleFor traceOf areBytes ofBytes
+unfolding numberAt bytesOf crcBit crcBits crcByte crcFrom crcOf telemetryOf payloadOf due recordOf readRecord requestBytes sampleBytes deliveredBytes
+    failureBytes idleBytes nextBytes ackBytes wireBytes timeoutBytes bodyBytes answerBytes replyBytes since wire latest frameAt openRequest startedAt
+    latestFrame newlyStarted startedRequest faulted quietSince retries timeoutFor recovers note turn lastQueued existing check verdict streak judged
+    ruleFor traceOf areBytes ofBytes
 bytes-needed = (refl, refl, refl)

@@ -23,7 +23,20 @@ use Rattle.esc_feedback.specs.Recovery.{tryRecover}
 use Rattle.esc_books.specs.Figures.{withSample}
 use Rattle.esc_books.specs.Books.{bookedIn}
 use Rattle.esc_records.specs.Record.{recordOf, readRecord}
-use Rattle.esc_records.specs.Answer.{requestBytes, sampleBytes, deliveredBytes, failureBytes, idleBytes, nextBytes, ackBytes, wireBytes, timeoutBytes, reportBytes, bodyBytes, answerBytes}
+use Rattle.esc_records.specs.Answer.{
+  requestBytes,
+  sampleBytes,
+  deliveredBytes,
+  failureBytes,
+  idleBytes,
+  nextBytes,
+  ackBytes,
+  wireBytes,
+  timeoutBytes,
+  reportBytes,
+  bodyBytes,
+  answerBytes,
+}
 use Rattle.esc_unit.specs.Unit.{stepOf, enter, callOf}
 use Rattle.booking.specs.History.{since, Call}
 use Rattle.booking.specs.Wire.{OnWire, byte, cut, wire}
@@ -79,7 +92,10 @@ abbrev samples : List Parsed
 samples = replicate 9 Nothing ++ Sample (telemetryOf nine) ∷ (replicate 13 Nothing ++ Sample (telemetryOf second) ∷ [])
 
 pub alike : Comes before after true false same samples × Comes before′ after′ true false same samples
-unfolding numberAt bytesOf crcBit crcBits crcByte crcFrom crcOf telemetryOf payloadOf readFrame shiftedDown pushOf due sameRequest closedBySample afterHearing quietWindow mayRecover requestExists nextRequest markQueued ackOn onAck polledOn pollTimeout framedOn receivedOn pushWire tryRecover withSample bookedIn recordOf readRecord requestBytes sampleBytes deliveredBytes failureBytes idleBytes nextBytes ackBytes wireBytes timeoutBytes reportBytes bodyBytes answerBytes stepOf enter callOf since wire feed run passed reopened heard given
+unfolding numberAt bytesOf crcBit crcBits crcByte crcFrom crcOf telemetryOf payloadOf readFrame shiftedDown pushOf due sameRequest closedBySample
+    afterHearing quietWindow mayRecover requestExists nextRequest markQueued ackOn onAck polledOn pollTimeout framedOn receivedOn pushWire tryRecover
+    withSample bookedIn recordOf readRecord requestBytes sampleBytes deliveredBytes failureBytes idleBytes nextBytes ackBytes wireBytes timeoutBytes
+    reportBytes bodyBytes answerBytes stepOf enter callOf since wire feed run passed reopened heard given
 alike = (
   record { is-cut = refl; is-opened = refl; hears = refl; gives = refl },
   record { is-cut = refl; is-opened = refl; hears = refl; gives = refl },
@@ -104,7 +120,10 @@ pub record Apart : Type 0 where
   pub opened-anew : Comes before (calls (five ++ open′ ∷ five)) true true (map byte second) (replicate 10 Nothing)
 
 pub apart : Apart
-unfolding numberAt bytesOf crcBit crcBits crcByte crcFrom crcOf telemetryOf payloadOf readFrame shiftedDown pushOf due sameRequest closedBySample afterHearing quietWindow mayRecover requestExists nextRequest markQueued ackOn onAck polledOn pollTimeout framedOn receivedOn pushWire tryRecover withSample bookedIn recordOf readRecord requestBytes sampleBytes deliveredBytes failureBytes idleBytes nextBytes ackBytes wireBytes timeoutBytes reportBytes bodyBytes answerBytes stepOf enter callOf since wire feed run passed reopened heard given
+unfolding numberAt bytesOf crcBit crcBits crcByte crcFrom crcOf telemetryOf payloadOf readFrame shiftedDown pushOf due sameRequest closedBySample
+    afterHearing quietWindow mayRecover requestExists nextRequest markQueued ackOn onAck polledOn pollTimeout framedOn receivedOn pushWire tryRecover
+    withSample bookedIn recordOf readRecord requestBytes sampleBytes deliveredBytes failureBytes idleBytes nextBytes ackBytes wireBytes timeoutBytes
+    reportBytes bodyBytes answerBytes stepOf enter callOf since wire feed run passed reopened heard given
 apart =
     record {
       as-asked = record { is-cut = refl; is-opened = refl; hears = refl; gives = refl };

@@ -29,7 +29,23 @@ use Rattle.esc_idle.specs.declared.idle.EscIdleJudged.{EscIdleJudged}
 use Rattle.esc_records.specs.declared.answer.IdleAnswer.the-variants.{NoCheck, Status}
 use Rattle.base.specs.Maybe.{earliest}
 use Rattle.booking.specs.History.{Check, Seen, Past}
-use Rattle.booking.specs.IdleRule.{check, verdictIn, verdict, valid, erpm, expired, pastGrace, fresh, joined, streakAt, streak, tally, settled, judgedAt, judged}
+use Rattle.booking.specs.IdleRule.{
+  check,
+  verdictIn,
+  verdict,
+  valid,
+  erpm,
+  expired,
+  pastGrace,
+  fresh,
+  joined,
+  streakAt,
+  streak,
+  tally,
+  settled,
+  judgedAt,
+  judged,
+}
 use Rattle.booking.proofs.Lanes.{four, change-kept}
 
 abbrev newestOf : List EscTelemetryUpdate → Newest
@@ -46,7 +62,8 @@ lanesOf f = four (λ l. laneFrom (f l))
 abbrev checkAt : Check → (Lane → List EscTelemetryUpdate) → EscIdleQualification
 checkAt k f = record { config = k .config; «started_at_ms» = k .start; lanes = lanesOf f; verdict = record { terminal = terminal.None } }
 
-expire-is : (c : EscIdleQualificationConfig) (now : ℕ) (us : List EscTelemetryUpdate) → expireLane (c .«max_sample_age_ms») now (laneFrom us) ≡ laneFrom (fresh c now us)
+expire-is : (c : EscIdleQualificationConfig) (now : ℕ) (us : List EscTelemetryUpdate) → expireLane (c .«max_sample_age_ms») now (laneFrom us) ≡
+    laneFrom (fresh c now us)
 unfolding expireLane newestExpired
 expire-is c now [] = refl
 expire-is c now (u ∷ us) = go (expired c now u)
@@ -89,7 +106,8 @@ record Judged (k : Check) (f : Lane → List EscTelemetryUpdate) (v : EscIdleQua
   verdict : j .idle .verdict .terminal ≡ terminalOf (verdictIn (some (Status v)))
   lanes : verdictIn (some (Status v)) ≡ none → j .idle .lanes ≡ lanesOf f
 
-final : (k : Check) (f f′ : Lane → List EscTelemetryUpdate) (v : EscIdleQualificationStatus) → verdictIn (some (Status v)) ≡ some v → Judged k f′ v (decided (checkAt k f) v)
+final : (k : Check) (f f′ : Lane → List EscTelemetryUpdate) (v : EscIdleQualificationStatus) → verdictIn (some (Status v)) ≡ some v → Judged k f′ v
+    (decided (checkAt k f) v)
 final k f f′ v e =
     record { status = refl; config = refl; start = refl; verdict = rw e; lanes = λ z. absurd (Option·none-ne-some v (sym z ∙ e)) }
 
@@ -183,7 +201,8 @@ asks-is k f (some u) now = rw (← valid-is (k .config)) (go (validSettings (k .
 
     grace : validSettings (k .config) ≡ true → (d : Bool)
         → Judged k (λ l. pick d (fresh (k .config) now (joined (k .config) u l (f l))) (f l))
-        (pick d (pick (ltb (k .config .«max_erpm_div100») (erpm u)) (overspeed u) (settled k now (λ l. pick d (fresh (k .config) now (joined (k .config) u l (f l))) (f l)))) Pending)
+        (pick d (pick (ltb (k .config .«max_erpm_div100») (erpm u)) (overspeed u) (settled k now (λ l. pick d (fresh (k .config) now (joined
+        (k .config) u l (f l))) (f l)))) Pending)
         (pick d (measured (checkAt k f) u now) (saying (checkAt k f) Pending))
     grace ok true = measured-is k u f now ok
     grace ok false = record { status = refl; config = refl; start = refl; verdict = refl; lanes = λ z. refl }
@@ -229,9 +248,11 @@ module _ (h : Past) (q : EscIdleQualification) (i : Checked h q) (x : Option Esc
       let b = i .terminal ∙ ap terminalOf v in
       λ j. record { config = q .config; «started_at_ms» = q .«started_at_ms»; lanes = a j; verdict = record { terminal = b j } }
 
-  found : verdict h ≡ none → Judged k (λ l. streakAt k x now l (streak h l)) (pick (valid (q .config)) (judgedAt k x now (streak h)) (Failed InvalidConfig)) (asks q x now)
+  found : verdict h ≡ none → Judged k (λ l. streakAt k x now l (streak h l)) (pick (valid (q .config)) (judgedAt k x now (streak h)) (Failed
+      InvalidConfig)) (asks q x now)
   found v =
-      subst (λ (z : EscIdleQualification). Judged k (λ l. streakAt k x now l (streak h l)) (pick (valid (q .config)) (judgedAt k x now (streak h)) (Failed InvalidConfig)) (asks z x now))
+      subst (λ (z : EscIdleQualification). Judged k (λ l. streakAt k x now l (streak h l)) (pick (valid (q .config)) (judgedAt k x now (streak h))
+      (Failed InvalidConfig)) (asks z x now))
       (sym (running-is v)) (asks-is k (streak h) x now)
 
   pub status-is : Status (asks q x now .status) ≡ judged h x now

@@ -29,7 +29,8 @@ LawfulSince none = Unit {0}
 LawfulSince (some s) = Lawful (s .opening) (s .past)
 
 -- one record more
-lawful-open : (s : Since) → Lawful (s .opening) (s .past) → (r : Record) → LawfulSince (then (seen r (answerTo (s .opening) (s .past) r) .opening) (seen r (answerTo (s .opening) (s .past) r)) (some s))
+lawful-open : (s : Since) → Lawful (s .opening) (s .past) → (r : Record) → LawfulSince (then (seen r (answerTo (s .opening) (s .past) r) .opening)
+    (seen r (answerTo (s .opening) (s .past) r)) (some s))
 lawful-open s i (kind.Open c t) = start
 lawful-open s i (kind.NextRequest now) = more (kind.NextRequest now) refl i
 lawful-open s i (kind.MarkRequestQueued q now) = more (kind.MarkRequestQueued q now) refl i

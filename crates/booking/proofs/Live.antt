@@ -15,7 +15,20 @@ use Rattle.esc_lanes.specs.Output.{laneOf}
 use Rattle.esc_lanes.specs.declared.request.EscTelemetryUpdate.{EscTelemetryUpdate}
 use Rattle.esc_feedback.specs.declared.stats.EscManagerStats.{EscManagerStats}
 use Rattle.esc_records.specs.Record.{recordOf, readRecord}
-use Rattle.esc_records.specs.Answer.{requestBytes, sampleBytes, deliveredBytes, failureBytes, idleBytes, nextBytes, ackBytes, wireBytes, timeoutBytes, bodyBytes, answerBytes, replyBytes}
+use Rattle.esc_records.specs.Answer.{
+  requestBytes,
+  sampleBytes,
+  deliveredBytes,
+  failureBytes,
+  idleBytes,
+  nextBytes,
+  ackBytes,
+  wireBytes,
+  timeoutBytes,
+  bodyBytes,
+  answerBytes,
+  replyBytes,
+}
 use Rattle.esc_records.specs.declared.answer.Answer.{Answer}
 use Rattle.base.specs.Maybe.{is}
 use Rattle.booking.specs.History.{Past, History, saidBy, updateIn, since}
@@ -104,7 +117,10 @@ abbrev pub booked′ : ℕ → ℕ → ℕ → ℕ → Reading
 booked′ l s t e = record { lane = l; sequence = s; at = t; erpm = e }
 
 pub deliveries : readings (traceOf [] (map roomy flight)) ≡ booked′ 0 0 2 60 ∷ booked′ 1 1 5 62 ∷ booked′ 0 4 1801 63 ∷ booked′ 1 5 1901 64 ∷ []
-unfolding numberAt bytesOf crcBit crcBits crcByte crcFrom crcOf telemetryOf payloadOf due recordOf readRecord requestBytes sampleBytes deliveredBytes failureBytes idleBytes nextBytes ackBytes wireBytes timeoutBytes bodyBytes answerBytes since wire latest frameAt openRequest startedAt latestFrame newlyStarted startedRequest faulted quietSince retries timeoutFor recovers note turn lastQueued existing check verdict streak judged ruleFor traceOf
+unfolding numberAt bytesOf crcBit crcBits crcByte crcFrom crcOf telemetryOf payloadOf due recordOf readRecord requestBytes sampleBytes deliveredBytes
+    failureBytes idleBytes nextBytes ackBytes wireBytes timeoutBytes bodyBytes answerBytes since wire latest frameAt openRequest startedAt latestFrame
+    newlyStarted startedRequest faulted quietSince retries timeoutFor recovers note turn lastQueued existing check verdict streak judged ruleFor
+    traceOf
 deliveries = refl
 
 -- what of a list of records is accepted, by the rule
@@ -123,14 +139,22 @@ abbrev past : Past
 past = pastBy flight
 
 -- seven queued: four delivered, a timeout of each kind, and one open
-pub balance : (count queued past ≡ 7) × (count delivered past ≡ 4) × (count ackTimeout past ≡ 1) × (count responseTimeout past ≡ 1) × (is (openRequest past) ≡ true)
-unfolding numberAt bytesOf crcBit crcBits crcByte crcFrom crcOf telemetryOf payloadOf due recordOf readRecord requestBytes sampleBytes deliveredBytes failureBytes idleBytes nextBytes ackBytes wireBytes timeoutBytes bodyBytes answerBytes since wire latest frameAt openRequest startedAt latestFrame newlyStarted startedRequest faulted quietSince retries timeoutFor recovers note turn lastQueued existing check verdict streak judged ruleFor traceOf count
+pub balance : (count queued past ≡ 7) × (count delivered past ≡ 4) × (count ackTimeout past ≡ 1) × (count responseTimeout past ≡ 1) × (is (openRequest
+    past) ≡ true)
+unfolding numberAt bytesOf crcBit crcBits crcByte crcFrom crcOf telemetryOf payloadOf due recordOf readRecord requestBytes sampleBytes deliveredBytes
+    failureBytes idleBytes nextBytes ackBytes wireBytes timeoutBytes bodyBytes answerBytes since wire latest frameAt openRequest startedAt latestFrame
+    newlyStarted startedRequest faulted quietSince retries timeoutFor recovers note turn lastQueued existing check verdict streak judged ruleFor
+    traceOf count
 balance = (refl, refl, refl, refl, refl)
 
 -- what a 0c then reports: five 03s taken, one of them with a sample, and one rejected
 abbrev stats : EscManagerStats
 stats = reportFor past .stats
 
-pub report : (stats .«requests_queued» ≡ 7) × (stats .«requests_started» ≡ 5) × (stats .«actuator_ack_timeouts» ≡ 1) × (stats .«telemetry_response_timeouts» ≡ 1) × (stats .«mismatched_acks» ≡ 1) × (stats .recoveries ≡ 2)
-unfolding numberAt bytesOf crcBit crcBits crcByte crcFrom crcOf telemetryOf payloadOf due recordOf readRecord requestBytes sampleBytes deliveredBytes failureBytes idleBytes nextBytes ackBytes wireBytes timeoutBytes bodyBytes answerBytes since wire latest frameAt openRequest startedAt latestFrame newlyStarted startedRequest faulted quietSince retries timeoutFor recovers note turn lastQueued existing check verdict streak judged ruleFor traceOf count renewed reportFor
+pub report : (stats .«requests_queued» ≡ 7) × (stats .«requests_started» ≡ 5) × (stats .«actuator_ack_timeouts» ≡ 1) ×
+    (stats .«telemetry_response_timeouts» ≡ 1) × (stats .«mismatched_acks» ≡ 1) × (stats .recoveries ≡ 2)
+unfolding numberAt bytesOf crcBit crcBits crcByte crcFrom crcOf telemetryOf payloadOf due recordOf readRecord requestBytes sampleBytes deliveredBytes
+    failureBytes idleBytes nextBytes ackBytes wireBytes timeoutBytes bodyBytes answerBytes since wire latest frameAt openRequest startedAt latestFrame
+    newlyStarted startedRequest faulted quietSince retries timeoutFor recovers note turn lastQueued existing check verdict streak judged ruleFor
+    traceOf count renewed reportFor
 report = (refl, refl, refl, refl, refl, refl)

@@ -44,7 +44,27 @@ use Rattle.booking.specs.Counts.{renewed}
 use Rattle.booking.specs.Rule.{nextAnswer}
 use Rattle.booking.proofs.Lanes.{lane-eq}
 use Rattle.booking.proofs.Tallies.{wrapping, saturating}
-use Rattle.booking.proofs.ManagerState.{lastAt, pendingFrom, managerAt, ParserAt, event, byteSeen, noWire, cutSeen, refreshSeen, given-at, parser-byte, heard-is, delivered-is, same-is, Open, nothing, waiting, running, opened}
+use Rattle.booking.proofs.ManagerState.{
+  lastAt,
+  pendingFrom,
+  managerAt,
+  ParserAt,
+  event,
+  byteSeen,
+  noWire,
+  cutSeen,
+  refreshSeen,
+  given-at,
+  parser-byte,
+  heard-is,
+  delivered-is,
+  same-is,
+  Open,
+  nothing,
+  waiting,
+  running,
+  opened,
+}
 
 -- what a call shows of requests
 abbrev pub showing : Option Timed → Option Timed → Bool → Option EscTelemetryUpdate → Requests
@@ -94,15 +114,44 @@ module _ (o : Opening) (h : Past) (p : StreamParser) (i : ParserAt h p) where
 
   -- the held frame is closed by a `refl` of its own: a wrong rule is then refused by the words that differ
   byte-some : (b now : ℕ) (d : Idle) (f : List ℕ) → frameAt (wire h) b ≡ some f → Open h → ByteOk b now d
-  unfolding pushWire receivedOn framedOn turn lastQueued openRequest startedAt latestFrame startedRequest faulted quietSince retries note wrapping saturating renewed
+  unfolding pushWire receivedOn framedOn turn lastQueued openRequest startedAt latestFrame startedRequest faulted quietSince retries note wrapping
+      saturating renewed
   byte-some b now d f e (nothing k) =
-      rw (given-at h p i b, e, k, parser-byte h p i b (showing none none false none) now false d .counts, e, heard-is (faulted h) (quietSince h) (retries h) now)
+      rw (
+        given-at h p i b,
+        e,
+        k,
+        parser-byte h p i b (showing none none false none) now false d .counts,
+        e,
+        heard-is (faulted h) (quietSince h)
+            (retries h) now,
+      )
   byte-some b now d f e (waiting q k s) =
-      rw (given-at h p i b, e, k, s, parser-byte h p i b (showing none none false none) now false d .counts, e, heard-is (faulted h) (quietSince h) (retries h) now, s)
+      rw (
+        given-at h p i b,
+        e,
+        k,
+        s,
+        parser-byte h p i b (showing none none false none) now false d .counts,
+        e,
+        heard-is (faulted h) (quietSince h)
+            (retries h) now,
+        s,
+      )
       refl
   byte-some b now d f e (running q t k s) =
-      rw (given-at h p i b, e, k, s, parser-byte h p i b (showing none none false none) now false d .counts, e, heard-is (faulted h) (quietSince h) (retries h) now)
-      (ap (λ (m : EscManager). record { manager = m; answer = update.Some (booked (q .request) (record { bytes = f; at = now })) }) (delivered-is _ _ _ _ _ _ _ _ _ _))
+      rw (
+        given-at h p i b,
+        e,
+        k,
+        s,
+        parser-byte h p i b (showing none none false none) now false d .counts,
+        e,
+        heard-is (faulted h) (quietSince h)
+            (retries h) now,
+      )
+      (ap (λ (m : EscManager). record { manager = m; answer = update.Some (booked (q .request) (record { bytes = f; at = now })) }) (delivered-is _ _
+      _ _ _ _ _ _ _ _))
 
   pub byte-ok : (b now : ℕ) (d : Idle) → ByteOk b now d
   byte-ok b now d = go (frameAt (wire h) b) refl
@@ -163,7 +212,15 @@ module _ (o : Opening) (h : Past) (p : StreamParser) (i : ParserAt h p) where
   ack-open k now d (nothing e) = rw (e, heard-is (faulted h) (quietSince h) (retries h) (k .«started_at_ms»))
   ack-open k now d (waiting q e s) = ack-waiting k now d q e s (equal (q .request) (k .request)) refl (latestFrame h) refl
   ack-open k now d (running q t e s) =
-      rw (e, s, and-false (equal (q .request) (k .request)), heard-is (faulted h) (quietSince h) (retries h) (k .«started_at_ms»), s, earliest-old (onlyIf (equal (q .request) (k .request)) (some (k .«started_at_ms»))) t)
+      rw (
+        e,
+        s,
+        and-false (equal (q .request) (k .request)),
+        heard-is (faulted h) (quietSince h) (retries h) (k .«started_at_ms»),
+        s,
+        earliest-old
+            (onlyIf (equal (q .request) (k .request)) (some (k .«started_at_ms»))) t,
+      )
 
   pub ack-ok : (k : EscActuatorAck) (now : ℕ) (d : Idle) → AckOk k now d
   ack-ok k now d = ack-open k now d (opened h)
@@ -275,7 +332,8 @@ module _ (o : Opening) (h : Past) (p : StreamParser) (i : ParserAt h p) where
   pub recover-ok : (calm : faulted h ≡ true → openRequest h ≡ none) (armed : Bool) (now : ℕ) (d : Idle)
       → tryRecover (managerAt o h p) now armed
       ≡ record {
-        manager = managerAt o (event (recoverSeen (recovers o h armed now)) (cutIf (recovers o h armed now)) now false d ∷ h) (pick (recovers o h armed now) (resetOf p) p);
+        manager = managerAt o (event (recoverSeen (recovers o h armed now)) (cutIf (recovers o h armed now)) now false d ∷ h) (pick (recovers o h
+            armed now) (resetOf p) p);
         answer = recovers o h armed now;
       }
   unfolding turn lastQueued openRequest startedAt latestFrame faulted quietSince retries note wrapping saturating renewed

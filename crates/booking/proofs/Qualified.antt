@@ -42,8 +42,10 @@ record Enough (k : Check) (now : ℕ) (g : Lane → List EscTelemetryUpdate) : T
   long : (l : Lane) → k .config .«required_consecutive_samples» ≤ tally (g l)
 
 every : (p : Lane → Bool) → (p Output1 && p Output2 && p Output3 && p Output4) ≡ true → (l : Lane) → p l ≡ true
-every p e Output1 = and-left (p Output1) (p Output2) (and-left (p Output1 && p Output2) (p Output3) (and-left (p Output1 && p Output2 && p Output3) (p Output4) e))
-every p e Output2 = and-right (p Output1) (p Output2) (and-left (p Output1 && p Output2) (p Output3) (and-left (p Output1 && p Output2 && p Output3) (p Output4) e))
+every p e Output1 = and-left (p Output1) (p Output2) (and-left (p Output1 && p Output2) (p Output3) (and-left (p Output1 && p Output2 && p Output3) (p
+    Output4) e))
+every p e Output2 = and-right (p Output1) (p Output2) (and-left (p Output1 && p Output2) (p Output3) (and-left (p Output1 && p Output2 && p Output3)
+    (p Output4) e))
 every p e Output3 = and-right (p Output1 && p Output2) (p Output3) (and-left (p Output1 && p Output2 && p Output3) (p Output4) e)
 every p e Output4 = and-right (p Output1 && p Output2 && p Output3) (p Output4) e
 
@@ -55,12 +57,14 @@ qualified (Failed f) = false
 
 module _ (k : Check) (now : ℕ) where
   long-each : (g : Lane → List EscTelemetryUpdate) → qualified (settled k now g) ≡ true → (l : Lane) → k .config .«required_consecutive_samples» ≤ tally (g l)
-  long-each g e l = leb-true (k .config .«required_consecutive_samples») (tally (g l)) (every p (go (p Output1 && p Output2 && p Output3 && p Output4) (due (k .start) now (k .config .«timeout_ms»)) e) l)
+  long-each g e l = leb-true (k .config .«required_consecutive_samples») (tally (g l)) (every p (go (p Output1 && p Output2 && p Output3 && p Output4)
+      (due (k .start) now (k .config .«timeout_ms»)) e) l)
     where
       p : Lane → Bool
       p m = leb (k .config .«required_consecutive_samples») (tally (g m))
 
-      go : (a d : Bool) → qualified (pick a Qualified (pick d (Failed (Timeout (tally (g Output1)) (tally (g Output2)) (tally (g Output3)) (tally (g Output4)))) Pending)) ≡ true → a ≡ true
+      go : (a d : Bool) → qualified (pick a Qualified (pick d (Failed (Timeout (tally (g Output1)) (tally (g Output2)) (tally (g Output3)) (tally (g
+          Output4)))) Pending)) ≡ true → a ≡ true
       go true d z = refl
       go false true z = absurd (false≢true z)
       go false false z = absurd (false≢true z)
@@ -83,7 +87,8 @@ module _ (k : Check) (now : ℕ) where
   enough (some u) f v e = go (pastGrace k now) (ltb (k .config .«max_erpm_div100») (erpm u)) e
     where
       go : (d m : Bool)
-          → qualified (pick d (pick m (Failed (Overspeed (u .output) (erpm u))) (settled k now (λ l. pick d (fresh (k .config) now (joined (k .config) u l (f l))) (f l)))) Pending) ≡ true
+          → qualified (pick d (pick m (Failed (Overspeed (u .output) (erpm u))) (settled k now (λ l. pick d (fresh (k .config) now (joined (k .config)
+          u l (f l))) (f l)))) Pending) ≡ true
           → Enough k now (λ l. pick d (fresh (k .config) now (joined (k .config) u l (f l))) (f l))
       go false m z = absurd (false≢true z)
       go true true z = absurd (false≢true z)
@@ -96,10 +101,12 @@ module _ (k : Check) (now : ℕ) where
           }
 
 -- the settings are looked at first
-enough-said : (k : Check) (x : Option EscTelemetryUpdate) (now : ℕ) (f : Lane → List EscTelemetryUpdate) → says k x now f ≡ Qualified → Enough k now (λ l. streakAt k x now l (f l))
+enough-said : (k : Check) (x : Option EscTelemetryUpdate) (now : ℕ) (f : Lane → List EscTelemetryUpdate) → says k x now f ≡ Qualified → Enough k now
+    (λ l. streakAt k x now l (f l))
 enough-said k x now f e = go (valid (k .config)) refl (ap qualified e)
   where
-    go : (v : Bool) → valid (k .config) ≡ v → qualified (pick v (judgedAt k x now f) (Failed InvalidConfig)) ≡ true → Enough k now (λ l. streakAt k x now l (f l))
+    go : (v : Bool) → valid (k .config) ≡ v → qualified (pick v (judgedAt k x now f) (Failed InvalidConfig)) ≡ true → Enough k now (λ l. streakAt k x
+        now l (f l))
     go true ok z = enough k now x f ok z
     go false ok z = absurd (false≢true z)
 
@@ -115,7 +122,8 @@ earned h e i (asks n s) q v = go (check h) refl
     x = e .requests .delivered
 
     go : (m : Option Check) → check h ≡ m → Earned h e
-    go none c = let z : some NoCheck ≡ some (Status Qualified) = rw (unchecked h x (e .now) c) at (sym s ∙ q) in absurd (let y : _≡_ {A = ℕ} 0 1 = cc in omega arith)
+    go none c = let z : some NoCheck ≡ some (Status Qualified) = rw (unchecked h x (e .now) c) at (sym s ∙ q) in absurd (let y : _≡_ {A = ℕ} 0 1 = cc
+        in omega arith)
     go (some k) c =
         let w : says k x (e .now) (streak h) ≡ Qualified = same-status _ _ (rw (judged-is h k x (e .now) c v) at (sym s ∙ q)) in
         let g = enough-said k x (e .now) (streak h) w in

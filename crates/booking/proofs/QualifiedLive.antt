@@ -83,8 +83,11 @@ pub statuses : (last (opening ∷ asking 5 ∷ []) ≡ some NoCheck)
     × (last qualifying ≡ some (Status Qualified))
     × (last (opening ∷ checking 0 1 ∷ asking 5 ∷ []) ≡ some (Status (Failed InvalidConfig)))
     × (last (opening ∷ checking 30 1 ∷ reading 0 0 60 20 ++ reading 1 1 101 20) ≡ some (Status (Failed (Overspeed (record { 0 = Output2 }) 101))))
-    × (last (opening ∷ checking 30 1 ∷ reading 0 0 60 750 ++ (reading 1 1 60 850 ++ (reading 2 2 29 900 ++ (asking 1000 ∷ [])))) ≡ some (Status (Failed (Timeout 0 1 0 0))))
-unfolding numberAt bytesOf crcBit crcBits crcByte crcFrom crcOf telemetryOf payloadOf due recordOf readRecord requestBytes sampleBytes deliveredBytes failureBytes idleBytes ackBytes wireBytes bodyBytes answerBytes since wire latest frameAt openRequest startedAt latestFrame newlyStarted startedRequest faulted turn lastQueued existing check verdict valid streak judged ruleFor traceOf
+    × (last (opening ∷ checking 30 1 ∷ reading 0 0 60 750 ++ (reading 1 1 60 850 ++ (reading 2 2 29 900 ++ (asking 1000 ∷ [])))) ≡ some (Status
+    (Failed (Timeout 0 1 0 0))))
+unfolding numberAt bytesOf crcBit crcBits crcByte crcFrom crcOf telemetryOf payloadOf due recordOf readRecord requestBytes sampleBytes deliveredBytes
+    failureBytes idleBytes ackBytes wireBytes bodyBytes answerBytes since wire latest frameAt openRequest startedAt latestFrame newlyStarted
+    startedRequest faulted turn lastQueued existing check verdict valid streak judged ruleFor traceOf
 statuses = (refl, refl, refl, refl, refl, refl)
 
 abbrev pastOf : Option Since → Past
@@ -102,5 +105,7 @@ before (e ∷ h) = h
 pub first : (verdict (before (after qualifying)) ≡ none)
     × (map (λ (l : Lane). map erpm (counted (after qualifying) l)) (Output1 ∷ Output2 ∷ Output3 ∷ Output4 ∷ [])
     ≡ (60 ∷ 60 ∷ []) ∷ (60 ∷ 60 ∷ 29 ∷ []) ∷ (100 ∷ 100 ∷ []) ∷ (30 ∷ 30 ∷ []) ∷ [])
-unfolding numberAt bytesOf crcBit crcBits crcByte crcFrom crcOf telemetryOf payloadOf due recordOf readRecord requestBytes sampleBytes deliveredBytes failureBytes idleBytes ackBytes wireBytes bodyBytes answerBytes since wire latest frameAt openRequest startedAt latestFrame newlyStarted startedRequest faulted turn lastQueued existing check verdict valid streak judged counted ruleFor traceOf
+unfolding numberAt bytesOf crcBit crcBits crcByte crcFrom crcOf telemetryOf payloadOf due recordOf readRecord requestBytes sampleBytes deliveredBytes
+    failureBytes idleBytes ackBytes wireBytes bodyBytes answerBytes since wire latest frameAt openRequest startedAt latestFrame newlyStarted
+    startedRequest faulted turn lastQueued existing check verdict valid streak judged counted ruleFor traceOf
 first = (refl, refl)

@@ -12,7 +12,21 @@ use Rattle.esc_lanes.specs.declared.output.Lane.{Lane}
 use Rattle.esc_lanes.specs.declared.output.Lane.the-variants.{Output1, Output2, Output3}
 use Rattle.esc_lanes.specs.declared.request.EscTelemetryUpdate.{EscTelemetryUpdate}
 use Rattle.esc_records.specs.Record.{recordOf, readRecord}
-use Rattle.esc_records.specs.Answer.{requestBytes, sampleBytes, deliveredBytes, failureBytes, idleBytes, nextBytes, ackBytes, wireBytes, timeoutBytes, storedBytes, bodyBytes, answerBytes, replyBytes}
+use Rattle.esc_records.specs.Answer.{
+  requestBytes,
+  sampleBytes,
+  deliveredBytes,
+  failureBytes,
+  idleBytes,
+  nextBytes,
+  ackBytes,
+  wireBytes,
+  timeoutBytes,
+  storedBytes,
+  bodyBytes,
+  answerBytes,
+  replyBytes,
+}
 use Rattle.booking.specs.History.{since}
 use Rattle.booking.specs.Wire.{wire, latest, frameAt}
 use Rattle.booking.specs.Booking.{openRequest, startedAt, latestFrame, newlyStarted, startedRequest}
@@ -54,7 +68,10 @@ pub newest-live : (newest Output1 flight ≡ some (booked′ 0 4 5 64))
     × (newest Output1 (flight ++ recovery) ≡ none)
     × (newest Output2 (flight ++ (recovery ++ later)) ≡ none)
     × (newest Output3 (flight ++ (recovery ++ later)) ≡ some (booked′ 2 6 527 65))
-unfolding numberAt bytesOf crcBit crcBits crcByte crcFrom crcOf telemetryOf payloadOf due recordOf readRecord requestBytes sampleBytes deliveredBytes failureBytes idleBytes nextBytes ackBytes wireBytes timeoutBytes bodyBytes answerBytes since wire latest frameAt openRequest startedAt latestFrame newlyStarted startedRequest faulted quietSince retries timeoutFor recovers note turn lastQueued existing check verdict streak judged ruleFor traceOf deliveredOn sinceRecovery
+unfolding numberAt bytesOf crcBit crcBits crcByte crcFrom crcOf telemetryOf payloadOf due recordOf readRecord requestBytes sampleBytes deliveredBytes
+    failureBytes idleBytes nextBytes ackBytes wireBytes timeoutBytes bodyBytes answerBytes since wire latest frameAt openRequest startedAt latestFrame
+    newlyStarted startedRequest faulted quietSince retries timeoutFor recovers note turn lastQueued existing check verdict streak judged ruleFor
+    traceOf deliveredOn sinceRecovery
 newest-live = (refl, refl, refl, refl, refl)
 
 -- and the answers: 00 none, or 01 sample
@@ -69,5 +86,8 @@ pub shown-live : (lastReply (flight ++ show 0 ∷ []) ≡ sample 0 4 5 64)
     × (lastReply (flight ++ (recovery ++ show 0 ∷ [])) ≡ none′)
     × (lastReply (flight ++ (recovery ++ (later ++ show 1 ∷ []))) ≡ none′)
     × (lastReply (flight ++ (recovery ++ (later ++ show 2 ∷ []))) ≡ sample 2 6 527 65)
-unfolding numberAt bytesOf crcBit crcBits crcByte crcFrom crcOf telemetryOf payloadOf due recordOf readRecord requestBytes sampleBytes deliveredBytes failureBytes idleBytes nextBytes ackBytes wireBytes timeoutBytes storedBytes bodyBytes answerBytes replyBytes since wire latest frameAt openRequest startedAt latestFrame newlyStarted startedRequest faulted quietSince retries timeoutFor recovers note turn lastQueued existing check verdict streak judged ruleFor traceOf stored
+unfolding numberAt bytesOf crcBit crcBits crcByte crcFrom crcOf telemetryOf payloadOf due recordOf readRecord requestBytes sampleBytes deliveredBytes
+    failureBytes idleBytes nextBytes ackBytes wireBytes timeoutBytes storedBytes bodyBytes answerBytes replyBytes since wire latest frameAt
+    openRequest startedAt latestFrame newlyStarted startedRequest faulted quietSince retries timeoutFor recovers note turn lastQueued existing check
+    verdict streak judged ruleFor traceOf stored
 shown-live = (refl, refl, refl, refl, refl)

@@ -48,7 +48,8 @@ not-over k (some u) now f e =
 abbrev pub Sound : Past → Type 0
 Sound h = verdict h ≡ none → (k : Check) → check h ≡ some k → (l : Lane) → Newest (k .config) (streak h l) (counted h l)
 
-pub judged-is : (h : Past) (k : Check) (x : Option EscTelemetryUpdate) (now : ℕ) → check h ≡ some k → verdict h ≡ none → judged h x now ≡ Status (says k x now (streak h))
+pub judged-is : (h : Past) (k : Check) (x : Option EscTelemetryUpdate) (now : ℕ) → check h ≡ some k → verdict h ≡ none → judged h x now ≡ Status (says
+    k x now (streak h))
 unfolding judged
 judged-is h k x now c v = rw (c, v)
 

@@ -37,7 +37,23 @@ use Rattle.booking.specs.Counts.{queued, started, ackTimeout, responseTi
 use Rattle.booking.specs.Rule.{ackAnswer, wireAnswerOf, answerTo}
 use Rattle.booking.proofs.Tallies.{wrapping-is, saturating-is}
 use Rattle.booking.proofs.ManagerState.{managerAt, ParserAt, event, byteSeen, noWire, parser-byte, parser-same, parser-cut, parser-new, manager-new}
-use Rattle.booking.proofs.ManagerSteps.{showing, updateAnswer, delivers, ackOutcome, seenTimeout, byte-ok, ack-ok, poll-ok, next-ok, mark-ok, recover-ok, cut-ok, take-ok, refresh-ok, same-ok}
+use Rattle.booking.proofs.ManagerSteps.{
+  showing,
+  updateAnswer,
+  delivers,
+  ackOutcome,
+  seenTimeout,
+  byte-ok,
+  ack-ok,
+  poll-ok,
+  next-ok,
+  mark-ok,
+  recover-ok,
+  cut-ok,
+  take-ok,
+  refresh-ok,
+  same-ok,
+}
 use Rattle.booking.proofs.BooksState.{BooksAt, books-new, took, asked-status, same, dropped, checked, stored-at, figure-at}
 
 -- while faulted no request is open
@@ -105,7 +121,8 @@ module _ (o : Opening) (h : Past) (p : StreamParser) (b : Books) (parser : Parse
         answers = k;
         unit =
             rw e
-            (leaves _ m p b refl (same-ok o h p parser 0 (record { check = none; status = none })) (parser-same h p (showing none none false none) false 0 false (record { check = none; status = none }) parser)
+            (leaves _ m p b refl (same-ok o h p parser 0 (record { check = none; status = none })) (parser-same h p (showing none none false none)
+            false 0 false (record { check = none; status = none }) parser)
             (same h b books _ refl refl refl refl));
       }
 
@@ -126,12 +143,16 @@ module _ (o : Opening) (h : Past) (p : StreamParser) (b : Books) (parser : Parse
 
   -- 02
   mark-calm : (q : EscActuatorRequest) (now : ℕ) (x : Option EscActuatorRequest) → existing o h now ≡ x
-      → Calm (event (showing (onlyIf (names x q) (some (record { request = q; at = now }))) none false none) noWire now false (record { check = none; status = none }) ∷ h)
+      → Calm (event (showing (onlyIf (names x q) (some (record { request = q; at = now }))) none false none) noWire now false (record {
+        check = none;
+        status = none;
+      }) ∷ h)
   unfolding faulted openRequest
   mark-calm q now none e k = calm k
   mark-calm q now (some n) e k = absurd (true≢false (sym k ∙ existing-unfaulted o h now n e))
 
-  marked : (q : EscActuatorRequest) (now : ℕ) → StepOk o h (kind.MarkRequestQueued q now) (answer.Decided (names (existing o h now) q)) (stepOf m b (kind.MarkRequestQueued q now))
+  marked : (q : EscActuatorRequest) (now : ℕ) → StepOk o h (kind.MarkRequestQueued q now) (answer.Decided (names (existing o h now) q)) (stepOf m b
+      (kind.MarkRequestQueued q now))
   unfolding stepOf
   marked q now =
       let d : Idle = record { check = none; status = none } in
@@ -185,7 +206,8 @@ module _ (o : Opening) (h : Past) (p : StreamParser) (b : Books) (parser : Parse
       let kept = took h b books u now (acknowledging k now (some q) (some f)) refl refl refl refl refl in
       record {
         answers = ap (λ (s : IdleAnswer). answer.Ack (ack.Sample (record { update = u; status = s }))) (kept .status);
-        unit = leaves (acknowledging k now (some q) (some f)) _ p (bookedIn b u now .books) refl refl (parser-same h p _ false now false _ parser) (kept .books);
+        unit = leaves (acknowledging k now (some q) (some f)) _ p (bookedIn b u now .books) refl refl (parser-same h p _ false now false _ parser)
+            (kept .books);
       }
 
   acked : (k : EscActuatorAck) (now : ℕ) → StepOk o h (kind.ActuatorAck k now) (answerTo o h (kind.ActuatorAck k now)) (stepOf m b (kind.ActuatorAck k now))
@@ -197,7 +219,15 @@ module _ (o : Opening) (h : Past) (p : StreamParser) (b : Books) (parser : Parse
   -- 04
   polled-on : (now : ℕ) (t : EscManagerTimeout)
       → StepOk o h (kind.PollTimeout now) (answer.Timeout t)
-      (stepped (managerAt o (event (record { granted = none; acknowledged = none; started = false; delivered = none; timeout = seenTimeout o h p parser t; recovered = false }) noWire now false (record { check = none; status = none }) ∷ h) p) b (answer.Timeout t))
+      (stepped (managerAt o (event (record {
+        granted = none;
+        acknowledged = none;
+        started = false;
+        delivered = none;
+        timeout = seenTimeout o h p
+            parser t;
+        recovered = false;
+      }) noWire now false (record { check = none; status = none }) ∷ h) p) b (answer.Timeout t))
   polled-on now timeout.None =
       record { answers = refl; unit = leaves _ _ p b refl refl (parser-same h p _ false now false _ parser) (same h b books _ refl refl refl refl) }
   polled-on now (timeout.ActuatorAck q) =
@@ -226,7 +256,8 @@ module _ (o : Opening) (h : Past) (p : StreamParser) (b : Books) (parser : Parse
       let kept = took h b books u now (wireEvent x now (some u)) refl refl refl refl refl in
       record {
         answers = ap (λ (s : IdleAnswer). answer.Wire (wireAnswer.Sample (record { update = u; status = s }))) (kept .status);
-        unit = leaves (wireEvent x now (some u)) _ (pushOf p x .parser) (bookedIn b u now .books) refl refl (parser-byte h p parser x _ now false _) (kept .books);
+        unit = leaves (wireEvent x now (some u)) _ (pushOf p x .parser) (bookedIn b u now .books) refl refl (parser-byte h p parser x _ now false _)
+            (kept .books);
       }
 
   received : (x now : ℕ) → StepOk o h (kind.WireByte x now) (answerTo o h (kind.WireByte x now)) (stepOf m b (kind.WireByte x now))
@@ -236,18 +267,29 @@ module _ (o : Opening) (h : Past) (p : StreamParser) (b : Books) (parser : Parse
   -- 07
   recovered-on : (armed : Bool) (now : ℕ) (y : Bool)
       → StepOk o h (kind.TryRecover armed now) (answer.Decided y)
-      (recoveredOn (managerAt o (event (record { granted = none; acknowledged = none; started = false; delivered = none; timeout = none; recovered = y }) (record { byte = none; cut = y; refreshed = false }) now false (record { check = none; status = none }) ∷ h) (pick y (resetOf p) p)) b y)
+      (recoveredOn (managerAt o (event (record {
+        granted = none;
+        acknowledged = none;
+        started = false;
+        delivered = none;
+        timeout = none;
+        recovered = y;
+      }) (record { byte = none; cut = y; refreshed = false }) now false (record { check = none; status = none }) ∷ h) (pick y (resetOf p) p)) b y)
   recovered-on armed now true =
       record { answers = refl; unit = leaves _ _ (resetOf p) _ refl refl (parser-cut h p _ now false _ parser) (dropped h b books _ refl refl refl refl) }
   recovered-on armed now false =
       record { answers = refl; unit = leaves _ _ p b refl refl (parser-same h p _ false now false _ parser) (same h b books _ refl refl refl refl) }
 
-  recovering : (armed : Bool) (now : ℕ) → StepOk o h (kind.TryRecover armed now) (answer.Decided (recovers o h armed now)) (stepOf m b (kind.TryRecover armed now))
+  recovering : (armed : Bool) (now : ℕ) → StepOk o h (kind.TryRecover armed now) (answer.Decided (recovers o h armed now)) (stepOf m b
+      (kind.TryRecover armed now))
   unfolding stepOf
   recovering armed now = rw (recover-ok o h p parser calm armed now (record { check = none; status = none })) (recovered-on armed now (recovers o h armed now))
 
   -- 06, 08 and 09
-  quietly : (r : Record) (n : EscManager) (p′ : StreamParser) (w : Wire) (k : Bool) → ParserAt (event (showing none none false none) w 0 k (record { check = none; status = none }) ∷ h) p′
+  quietly : (r : Record) (n : EscManager) (p′ : StreamParser) (w : Wire) (k : Bool) → ParserAt (event (showing none none false none) w 0 k (record {
+    check = none;
+    status = none;
+  }) ∷ h) p′
       → n ≡ managerAt o (event (showing none none false none) w 0 k (record { check = none; status = none }) ∷ h) p′
       → (a : Answer) → seen r a ≡ event (showing none none false none) w 0 k (record { check = none; status = none })
       → (a′ : Answer) → a ≡ a′ → StepOk o h r a′ (stepped n b a)
@@ -263,15 +305,21 @@ module _ (o : Opening) (h : Past) (p : StreamParser) (b : Books) (parser : Parse
   step-ok (kind.ActuatorAck k now) f = acked k now
   step-ok (kind.PollTimeout now) f = polled now
   step-ok (kind.WireByte x now) f = received x now
-  step-ok kind.WireDiscontinuity f = quietly kind.WireDiscontinuity _ (resetOf p) _ false (parser-cut h p _ 0 false _ parser) (cut-ok o h p parser _) answer.Done refl _ refl
+  step-ok kind.WireDiscontinuity f = quietly kind.WireDiscontinuity _ (resetOf p) _ false (parser-cut h p _ 0 false _ parser) (cut-ok o h p parser _)
+      answer.Done refl _ refl
   step-ok (kind.TryRecover armed now) f = recovering armed now
-  step-ok kind.TakeBackAfterRetries f = quietly kind.TakeBackAfterRetries _ p _ true (parser-same h p _ false 0 true _ parser) (take-ok o h p parser _) _ refl _ refl
-  step-ok kind.RefreshWireStats f = quietly kind.RefreshWireStats _ p _ false (parser-same h p _ true 0 false _ parser) (refresh-ok o h p parser _) answer.Done refl _ refl
+  step-ok kind.TakeBackAfterRetries f = quietly kind.TakeBackAfterRetries _ p _ true (parser-same h p _ false 0 true _ parser) (take-ok o h p parser
+      _) _ refl _ refl
+  step-ok kind.RefreshWireStats f = quietly kind.RefreshWireStats _ p _ false (parser-same h p _ true 0 false _ parser) (refresh-ok o h p parser _)
+      answer.Done refl _ refl
   step-ok (kind.IdleCheck c t) f =
       let d : Idle = record { check = some (record { config = c; start = t }); status = none } in
       record {
         answers = refl;
-        unit = leaves _ m p _ refl (same-ok o h p parser t d) (parser-same h p _ false t false d parser) (checked h b books _ (record { config = c; start = t }) refl refl refl);
+        unit = leaves _ m p _ refl (same-ok o h p parser t d) (parser-same h p _ false t false d parser) (checked h b books _ (record {
+          config = c;
+          start = t;
+        }) refl refl refl);
       }
   step-ok (kind.IdleStatus now) f =
       let d : Idle = record { check = none; status = some (idleStatus b now .status) } in

@@ -179,7 +179,14 @@ abbrev statusSeen : Said → Idle
 statusSeen s = record { check = none; status = s .status }
 
 abbrev pub seenBy : Record → Said → Seen
-seenBy (kind.Open c t) s = record { opening = some (record { config = c; boot = t }); requests = noRequests; wire = noWire; idle = noIdle; now = t; taken = false }
+seenBy (kind.Open c t) s = record {
+  opening = some (record { config = c; boot = t });
+  requests = noRequests;
+  wire = noWire;
+  idle = noIdle;
+  now = t;
+  taken = false;
+}
 seenBy (kind.NextRequest t) s = nothing
 seenBy (kind.MarkRequestQueued q t) s = seenAt t (grantedIf (s .yes) q t) noWire noIdle
 seenBy (kind.ActuatorAck k t) s = seenAt t (acknowledged k s) noWire (statusSeen s)

@@ -62,7 +62,11 @@ module _ (m : EscManager) (a : EscActuatorAck) where
 
     -- the two cases of `startedBy`
     pub ack-accepted : m .outstanding .pending ≡ pending.Queued q t early.None → sameRequest (a .request) q ≡ true
-        → onAck m a ≡ record { manager = setOutstanding (startedOutstanding q (a .«started_at_ms»)) (counting requestsStarted heard); answer = outcome.Accepted }
+        → onAck m a ≡ record {
+          manager = setOutstanding (startedOutstanding q (a .«started_at_ms»)) (counting requestsStarted heard);
+          answer =
+              outcome.Accepted;
+        }
     ack-accepted e s = ack-same early.None e s
 
     pub ack-sample : (o : EscTelemetryObservation) → m .outstanding .pending ≡ pending.Queued q t (early.Some o) → sameRequest (a .request) q ≡ true

@@ -12,6 +12,7 @@ unfolding closedBySample
 delivered-calm m e = rw (eq-eqb _ _ e)
 
 pub delivered-back : (m : EscManager) → (m .fault .«retries_without_frame» ≡ 0 → ⊥)
-    → closedBySample m ≡ setFault (retriesCleared (m .fault)) (setBack (noted (back.Some (m .fault .«retries_without_frame»))) (setOutstanding noneOutstanding m))
+    → closedBySample m ≡ setFault (retriesCleared (m .fault)) (setBack (noted (back.Some (m .fault .«retries_without_frame»))) (setOutstanding
+    noneOutstanding m))
 unfolding closedBySample
 delivered-back m n = rw (ne-eqb _ _ n)

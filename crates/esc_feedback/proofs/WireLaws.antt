@@ -67,7 +67,10 @@ module _ (m : EscManager) (byte at : ℕ) where
 
     module _ (q : EscActuatorRequest) (t : ℕ) where
       pub pushed-held : (held : EarlyObservation) → m .outstanding .pending ≡ pending.Queued q t held
-          → pushWire m byte at ≡ record { manager = setOutstanding (queuedOutstanding q t (early.Some (observationOf q sample at))) (refreshed taken); answer = update.None }
+          → pushWire m byte at ≡ record {
+            manager = setOutstanding (queuedOutstanding q t (early.Some (observationOf q sample at))) (refreshed taken);
+            answer = update.None;
+          }
       pushed-held held e = pushed-sample sample g ∙ framed-held (refreshed taken) sample at q t held e
 
       pub pushed-delivered : m .outstanding .pending ≡ pending.Started q t

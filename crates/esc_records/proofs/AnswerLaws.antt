@@ -15,7 +15,25 @@ use Rattle.esc_feedback.specs.declared.answer.BackAfterRetries.the-variants as 
 use Rattle.esc_idle.specs.declared.idle_verdict.EscIdleQualificationFailure.{EscIdleQualificationFailure}
 use Rattle.esc_idle.specs.declared.idle_verdict.EscIdleQualificationFailure.the-variants as failure
 use Rattle.esc_idle.specs.declared.idle_verdict.EscIdleQualificationStatus.the-variants as idle
-use Rattle.esc_records.specs.Answer.{flagByte, requestBytes, sampleBytes, failureBytes, idleBytes, deliveredBytes, nextBytes, ackBytes, timeoutBytes, wireBytes, backBytes, reportBytes, storedBytes, figureBytes, bodyBytes, answerBytes, longestAnswer}
+use Rattle.esc_records.specs.Answer.{
+  flagByte,
+  requestBytes,
+  sampleBytes,
+  failureBytes,
+  idleBytes,
+  deliveredBytes,
+  nextBytes,
+  ackBytes,
+  timeoutBytes,
+  wireBytes,
+  backBytes,
+  reportBytes,
+  storedBytes,
+  figureBytes,
+  bodyBytes,
+  answerBytes,
+  longestAnswer,
+}
 use Rattle.esc_records.specs.declared.answer.Figure.{Figure}
 use Rattle.esc_records.specs.declared.answer.IdleAnswer.{IdleAnswer}
 use Rattle.esc_records.specs.declared.answer.IdleAnswer.the-variants as idleAnswer

@@ -69,8 +69,8 @@ impl Stream {
     {
         let digits = digits();
         let mut bytes = [0u8; LONGEST_RECORD];
-        // The unit's parts are variables of their own and the five kinds of a flight stand in the loop, so that
-        // a line moves only what it touches: a call for each line that takes the unit costs as much again.
+        // The unit's parts are variables, and the kinds of a flight are arms of this loop, so that a line moves
+        // only what it touches: with an arm in a function of its own the whole takes longer (docs/PERFORMANCE.md).
         let first = self.unit;
         let mut opened = first.opened;
         let mut manager = first.manager;
@@ -83,6 +83,7 @@ impl Stream {
             if out.len() - written < LONGEST_LINE {
                 break;
             }
+            // A byte that the parser only collects stands in its line, and is taken from there.
             let parser = manager.parser;
             let byte = collected_byte(&digits, &chunk[used..], held, opened, parser);
             if let WireLine::Byte(byte, at_ms) = byte {
@@ -95,6 +96,7 @@ impl Stream {
                 used += WIRE_LINE + 1;
                 continue;
             }
+            // Else the next line is read, or what the chunk has of it is held for the next piece.
             let found = next_record(&digits, &chunk[used..], &mut line, held, &mut bytes, opened);
             match found {
                 NextRecord::Open(n) => {
@@ -110,6 +112,7 @@ impl Stream {
                     held = 0;
                     used += next;
                     opened = true;
+                    // Its kind's arm: the manager is called, and what it answers is printed.
                     match record {
                         Record::NextRequest { now_ms } => {
                             let request = manager.next_request(now_ms);
@@ -117,14 +120,12 @@ impl Stream {
                         }
                         Record::MarkRequestQueued { request, now_ms } => {
                             let marked = manager.mark_request_queued(request, now_ms);
-                            let after = marked.manager;
-                            manager = after;
+                            manager = marked.manager;
                             written = print_flag(marked.answer, out, written);
                         }
                         Record::ActuatorAck { ack, now_ms } => {
                             let acked = manager.on_actuator_ack(ack);
-                            let after = acked.manager;
-                            manager = after;
+                            manager = acked.manager;
                             let outcome = acked.answer;
                             match outcome {
                                 EscAckOutcome::Rejected => {
@@ -135,8 +136,7 @@ impl Stream {
                                 }
                                 EscAckOutcome::Sample(update) => {
                                     let booked = books.booked(update, now_ms);
-                                    let kept = booked.books;
-                                    books = kept;
+                                    books = booked.books;
                                     let status = booked.status;
                                     let text = delivered_text(Delivered { update, status });
                                     written = print_text(text, out, written);
@@ -145,8 +145,7 @@ impl Stream {
                         }
                         Record::PollTimeout { now_ms } => {
                             let polled = manager.poll_timeout(now_ms);
-                            let after = polled.manager;
-                            manager = after;
+                            manager = polled.manager;
                             let timeout = polled.answer;
                             written = print_text(timeout_text(timeout), out, written);
                         }
@@ -155,8 +154,7 @@ impl Stream {
                             observed_at_ms,
                         } => {
                             let received = manager.push_wire_byte(byte, observed_at_ms);
-                            let after = received.manager;
-                            manager = after;
+                            manager = received.manager;
                             let update = received.answer;
                             match update {
                                 WireUpdate::None => {
@@ -164,14 +162,14 @@ impl Stream {
                                 }
                                 WireUpdate::Some(update) => {
                                     let booked = books.booked(update, observed_at_ms);
-                                    let kept = booked.books;
-                                    books = kept;
+                                    books = booked.books;
                                     let status = booked.status;
                                     let text = delivered_text(Delivered { update, status });
                                     written = print_text(text, out, written);
                                 }
                             }
                         }
+                        // Any other kind goes by the unit's step.
                         _ => {
                             let stepped = step(manager, books, record);
                             let unit = stepped.unit;
@@ -184,6 +182,7 @@ impl Stream {
                 }
             }
         }
+        // What is left for the next piece.
         let unit = Unit {
             opened,
             manager,

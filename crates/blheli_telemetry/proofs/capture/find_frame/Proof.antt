@@ -63,7 +63,8 @@ loop-again c =
 
 returns-2 : tie.Need-returns-2 Inv-loop μ-loop
 returns-2 c =
-    λ k e. below-or-not k (c .before .loop .start) (λ h. c .before .loop .inv .1 k h e) (λ h. short-window (c .before .before .before .args .capture .now) k (omega arith) e)
+    λ k e. below-or-not k (c .before .loop .start) (λ h. c .before .loop .inv .1 k h e) (λ h. short-window
+    (c .before .before .before .args .capture .now) k (omega arith) e)
 
 pub find-frame-spec : {M : Type 1} → statement M
 find-frame-spec =

@@ -10,7 +10,11 @@ use Rattle.blheli_telemetry.proofs.frame.encode.Statement.{statement}
 use Rattle.blheli_telemetry.proofs.frame.encode.Tie as tie
 
 returns : tie.Need-returns
-returns c = (sym (short-reply (c .before .before .args .out .now) (c .if1 .taken)), sym (short-kept (c .before .before .args .telemetry) (c .before .before .args .out .now) (c .if1 .taken)))
+returns c = (
+  sym (short-reply (c .before .before .args .out .now) (c .if1 .taken)),
+  sym (short-kept (c .before .before .args .telemetry)
+      (c .before .before .args .out .now) (c .if1 .taken)),
+)
 
 put-payload-requires : tie.Need-put-payload-requires
 put-payload-requires c κs = search needs
@@ -36,7 +40,8 @@ returns-2 c =
     let room = put .before .before in
     let t = room .before .before .args .telemetry in
     let out = room .before .before .args .out .now in
-    let check : c .crc8 .result ≡ crcOf (payloadOf t) = c .crc8 .ensures ∙ ap crcOf (ap (take 9) (put .put-payload .ensures) ∙ payload-front t out (room .if1 .left)) in
+    let check : c .crc8 .result ≡ crcOf (payloadOf t) = c .crc8 .ensures ∙ ap crcOf (ap (take 9) (put .put-payload .ensures) ∙ payload-front t out
+    (room .if1 .left)) in
     (sym (room-reply t out (room .if1 .left)), rw (put .put-payload .ensures, check) (room-written t out (room .if1 .left)))
 
 pub encode-spec : {M : Type 1} → statement M

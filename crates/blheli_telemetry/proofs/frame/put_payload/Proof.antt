@@ -14,7 +14,8 @@ first c = c .put-be16 .kept .0 ∙ simp length-set
 second : (c : tie.After-put-be162) → length (c .put-be162 .last .0) ≡ length (c .before .before .before .before .before .before .before .args .out .now)
 second c = c .put-be162 .kept .0 ∙ first (c .before .before .before .before)
 
-third : (c : tie.After-put-be163) → length (c .put-be163 .last .0) ≡ length (c .before .before .before .before .before .before .before .before .before .before .before .args .out .now)
+third : (c : tie.After-put-be163) → length (c .put-be163 .last .0) ≡ length
+    (c .before .before .before .before .before .before .before .before .before .before .before .args .out .now)
 third c = c .put-be163 .kept .0 ∙ second (c .before .before .before .before)
 
 slice-write-out : tie.Need-slice-write-out

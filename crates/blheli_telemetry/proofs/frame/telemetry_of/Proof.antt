@@ -24,7 +24,13 @@ returns : tie.Need-returns
 unfolding telemetryOf
 returns c =
     let frame = c .before .before .before .before .before .before .args .frame .now in
-    rw (← number-one frame 0, c .be16-at4 .ensures, c .before .be16-at3 .ensures, c .before .before .be16-at2 .ensures, c .before .before .before .be16-at .ensures)
+    rw (
+      ← number-one frame 0,
+      c .be16-at4 .ensures,
+      c .before .be16-at3 .ensures,
+      c .before .before .be16-at2 .ensures,
+      c .before .before .before .be16-at .ensures,
+    )
 
 pub telemetry-of-spec : {M : Type 1} → statement M
 telemetry-of-spec =

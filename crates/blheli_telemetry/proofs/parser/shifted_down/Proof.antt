@@ -35,8 +35,14 @@ loop-less c = omega arith
 
 loop-again : tie.Need-loop-again Inv-loop μ-loop
 loop-again c =
-    let b = c .before in
-    (omega arith, (simp length-set (omega arith), shift-turn (b .before .args .t1) (b .loop .shifted) (b .loop .i) (search needs) (omega arith) (b .loop .inv .1 .1)))
+    let b = c .before in (
+      omega arith,
+      (
+        simp length-set (omega arith),
+        shift-turn (b .before .args .t1) (b .loop .shifted) (b .loop .i) (search needs) (omega arith)
+            (b .loop .inv .1 .1),
+      ),
+    )
 
 returns : tie.Need-returns Inv-loop μ-loop
 returns c = shift-end (c .before .before .args .t1) (c .before .loop .shifted) (c .before .loop .i) (omega arith) (c .before .loop .inv .1 .1)

@@ -16,12 +16,18 @@ returns c =
 returns-2 : tie.Need-returns-2
 returns-2 c =
     let a = c .before .before .before .before .before .before .args in
-    rw (few-fields (a .bytes .now) (a .gave .now) (a .fields .now) (a .counts .now) (omega (arith, c .before .if1 .left)) (c .if2 .taken)) (refl, (refl, (refl, refl)))
+    rw (few-fields (a .bytes .now) (a .gave .now) (a .fields .now) (a .counts .now) (omega (arith, c .before .if1 .left)) (c .if2 .taken)) (
+      refl,
+      (refl, (refl, refl)),
+    )
 
 returns-3 : tie.Need-returns-3
 returns-3 c =
     let a = c .before .before .before .before .before .before .before .args in
-    rw (few-counts (a .bytes .now) (a .gave .now) (a .fields .now) (a .counts .now) (omega (arith, c .before .before .if1 .left)) (omega (arith, c .before .if2 .left)) (c .if3 .taken)) (refl, (refl, (refl, refl)))
+    rw (few-counts (a .bytes .now) (a .gave .now) (a .fields .now) (a .counts .now) (omega (arith, c .before .before .if1 .left)) (omega (
+      arith,
+      c .before .if2 .left,
+    )) (c .if3 .taken)) (refl, (refl, (refl, refl)))
 
 run-requires : tie.Need-run-requires
 run-requires c κs = search needs
@@ -44,9 +50,21 @@ returns-4 c =
     let t = r .before .before .before in
     let a = t .before .before .before .before .before .before .before .args in
     let found = a .counts .now in
-    let room = all-fit (a .bytes .now) (a .gave .now) (a .fields .now) (a .counts .now) (omega (arith, t .before .before .if1 .left)) (omega (arith, t .before .if2 .left)) (omega (arith, t .if3 .left)) in
-    rw room
-    (refl, (r .run .ensures .1 .0, (r .run .ensures .1 .1, c .before .before .put-counts .ensures ∙ ap (λ (s : ParserStats). countsIn s found) (r .run .ensures .0))))
+    let room = all-fit (a .bytes .now) (a .gave .now) (a .fields .now) (a .counts .now) (omega (arith, t .before .before .if1 .left)) (omega (
+      arith,
+      t .before .if2 .left,
+    )) (omega (arith, t .if3 .left)) in
+    rw room (
+      refl,
+      (
+        r .run .ensures .1 .0,
+        (
+          r .run .ensures .1 .1,
+          c .before .before .put-counts .ensures ∙ ap (λ (s : ParserStats). countsIn s found)
+              (r .run .ensures .0),
+        ),
+      ),
+    )
 
 pub esc-stream-parse-spec : {M : Type 1} → statement M
 esc-stream-parse-spec =

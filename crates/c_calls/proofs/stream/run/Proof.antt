@@ -43,7 +43,8 @@ loop-again c =
     let k = c .before .before .before .before .put in
     let b = c .before .before .before .before .before .before .before .before in
     let l = b .before .before .before .loop in
-    running-more (l .inv) (omega (arith, b .before .before .loop-test .taken)) _ _ (b .pushed .result) (b .pushed .ensures) (k .kept .1 .1 .0) (k .kept .1 .1 .1 .0) (k .ensures .0) (k .ensures .1)
+    running-more (l .inv) (omega (arith, b .before .before .loop-test .taken)) _ _ (b .pushed .result) (b .pushed .ensures) (k .kept .1 .1 .0)
+    (k .kept .1 .1 .1 .0) (k .ensures .0) (k .ensures .1)
 
 stats-requires : tie.Need-stats-requires Inv-loop μ-loop
 stats-requires c κs = search needs

@@ -10,7 +10,8 @@ use Rattle.esc_records.proofs.put.put_number.Statement.{statement}
 use Rattle.esc_records.proofs.put.put_number.Tie as tie
 
 abbrev Inv-loop : tie.InvT-loop
-Inv-loop out₀ at width number left₀ rest₀ out left rest = (left ≤ width) × (at + width ≤ length out₀) × (length out ≡ length out₀) × (overwrite at (bytesOf left rest) out ≡ overwrite at (bytesOf width number) out₀)
+Inv-loop out₀ at width number left₀ rest₀ out left rest = (left ≤ width) × (at + width ≤ length out₀) × (length out ≡ length out₀) × (overwrite at
+    (bytesOf left rest) out ≡ overwrite at (bytesOf width number) out₀)
 
 abbrev μ-loop : tie.MeasureT-loop
 μ-loop out₀ at width number left₀ rest₀ out left rest = left

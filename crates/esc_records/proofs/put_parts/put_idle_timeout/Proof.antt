@@ -30,7 +30,8 @@ returns c =
     let p₃ = p₄ .before .before .before .before in
     let p₂ = p₃ .before .before .before .before in
     let p₁ = p₂ .before .before .before .before in
-    put-then (omega arith) (p₁ .put-byte .ensures) (put-then (omega arith) (p₂ .put-byte2 .ensures) (put-then (omega arith) (p₃ .put-byte3 .ensures) (put-then (omega arith) (p₄ .put-byte4 .ensures) (p₅ .put-byte5 .ensures))))
+    put-then (omega arith) (p₁ .put-byte .ensures) (put-then (omega arith) (p₂ .put-byte2 .ensures) (put-then (omega arith) (p₃ .put-byte3 .ensures)
+    (put-then (omega arith) (p₄ .put-byte4 .ensures) (p₅ .put-byte5 .ensures))))
 
 pub put-idle-timeout-spec : {M : Type 1} → statement M
 put-idle-timeout-spec =

@@ -37,7 +37,8 @@ returns c =
     let p₃ = p₄ .before .before .before .before in
     let p₂ = p₃ .before .before .before .before in
     let p₁ = p₂ .before .before .before .before .before in
-    put-then (omega arith) (p₁ .put-lane .ensures) (put-then (omega arith) (p₂ .put-number .ensures) (put-then (omega arith) (p₃ .put-number2 .ensures) (p₄ .put-payload .ensures)))
+    put-then (omega arith) (p₁ .put-lane .ensures) (put-then (omega arith) (p₂ .put-number .ensures) (put-then (omega arith)
+    (p₃ .put-number2 .ensures) (p₄ .put-payload .ensures)))
 
 pub put-sample-spec : {M : Type 1} → statement M
 put-sample-spec =

@@ -35,7 +35,8 @@ returns c =
     let p₃ = p₄ .before .before .before .before in
     let p₂ = p₃ .before .before .before .before .before in
     let p₁ = p₂ .before .before .before .before in
-    put-then (omega arith) (p₁ .put-counts .ensures) (put-then (omega arith) (p₂ .put-counts2 .ensures) (put-then (omega arith) (p₃ .put-number .ensures) (p₄ .put-counts3 .ensures)))
+    put-then (omega arith) (p₁ .put-counts .ensures) (put-then (omega arith) (p₂ .put-counts2 .ensures) (put-then (omega arith)
+    (p₃ .put-number .ensures) (p₄ .put-counts3 .ensures)))
 
 pub put-stats-spec : {M : Type 1} → statement M
 put-stats-spec =

@@ -13,9 +13,12 @@ use Rattle.unit_text.proofs.next_record.next_record.Tie as tie
 
 -- LF ends the line
 ended : (c : tie.After-known-told2)
-    → NextFrom (take (c .before .before .before .before .before .before .before .before .before .before .before .before .before .args .held) (now (c .before .before .before .before .before .before .before .before .before .before .before .before .before .args .line))) (now (c .before .before .before .before .before .before .before .before .before .before .before .before .before .args .chunk))
+    → NextFrom (take (c .before .before .before .before .before .before .before .before .before .before .before .before .before .args .held) (now
+    (c .before .before .before .before .before .before .before .before .before .before .before .before .before .args .line))) (now
+    (c .before .before .before .before .before .before .before .before .before .before .before .before .before .args .chunk))
     (Ended (c .before .found2 .given .0 .0) (c .before .found2 .given .0 .1 .0))
-    (c .before .before .before .before .before .before .before .next-line .last .1 .1 .0) (c .before .before .before .before .before .before .before .next-line .last .1 .1 .1 .1 .0)
+    (c .before .before .before .before .before .before .before .next-line .last .1 .1 .0)
+    (c .before .before .before .before .before .before .before .next-line .last .1 .1 .1 .1 .0)
 ended c = rw (c .before .found2 .given .1) at (c .before .before .before .before .before .before .before .next-line .ensures)
 
 next-line-requires : tie.Need-next-line-requires
@@ -28,7 +31,12 @@ enum-known-found-2 : tie.Need-enum-known-found-2
 enum-known-found-2 c = search needs
 
 admit-line-requires : tie.Need-admit-line-requires
-admit-line-requires c κs = omega (arith, ended (c .before) .3, c .before .before .before .before .before .before .before .before .next-line .kept .1 .1 .1 .1 .0, c .before .before .before .before .before .before .before .before .before .before .before .before .before .before .pre .1)
+admit-line-requires c κs = omega (
+  arith,
+  ended (c .before) .3,
+  c .before .before .before .before .before .before .before .before .next-line .kept .1 .1 .1 .1 .0,
+  c .before .before .before .before .before .before .before .before .before .before .before .before .before .before .pre .1,
+)
 
 enum-known-admission : tie.Need-enum-known-admission
 enum-known-admission c = search needs

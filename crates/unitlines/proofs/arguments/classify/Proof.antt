@@ -18,14 +18,22 @@ returns c = rw (sym (c .before .is .ensures) ∙ c .if1 .taken)
 
 returns-2 : tie.Need-returns-2
 unfolding kindOf
-returns-2 c = rw (sym (c .before .before .is .ensures) ∙ c .before .if1 .left, not-true (c .before .before .before .before .before .args .options) (c .if2 .taken))
+returns-2 c = rw (
+  sym (c .before .before .is .ensures) ∙ c .before .if1 .left,
+  not-true (c .before .before .before .before .before .args .options)
+      (c .if2 .taken),
+)
 
 option-or-file-requires : tie.Need-option-or-file-requires
 option-or-file-requires c κs = search needs
 
 returns-3 : tie.Need-returns-3
 unfolding kindOf
-returns-3 c = rw (sym (c .before .before .before .is .ensures) ∙ c .before .before .if1 .left, not-false (c .before .before .before .before .before .before .args .options) (c .before .if2 .left)) (c .option-or-file .ensures)
+returns-3 c = rw (
+  sym (c .before .before .before .is .ensures) ∙ c .before .before .if1 .left,
+  not-false
+      (c .before .before .before .before .before .before .args .options) (c .before .if2 .left),
+) (c .option-or-file .ensures)
 
 pub classify-spec : {M : Type 1} → statement M
 classify-spec =

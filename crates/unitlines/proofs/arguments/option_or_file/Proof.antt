@@ -33,18 +33,40 @@ is-requires-3 c κs = search needs
 
 returns-3 : tie.Need-returns-3
 unfolding optionOrFile
-returns-3 c = rw (sym (c .before .before .before .before .before .before .before .is .ensures) ∙ c .before .before .before .before .before .before .if1 .left, sym (c .before .before .before .before .is2 .ensures) ∙ c .before .before .before .if2 .left, sym (c .before .is3 .ensures) ∙ c .if3 .taken)
+returns-3 c = rw (
+  sym (c .before .before .before .before .before .before .before .is .ensures) ∙
+      c .before .before .before .before .before .before .if1 .left,
+  sym (c .before .before .before .before .is2 .ensures) ∙
+      c .before .before .before .if2 .left,
+  sym (c .before .is3 .ensures) ∙ c .if3 .taken,
+)
 
 starts-with-dash-requires : tie.Need-starts-with-dash-requires
 starts-with-dash-requires c κs = search needs
 
 returns-4 : tie.Need-returns-4
 unfolding optionOrFile
-returns-4 c = rw (sym (c .before .before .before .before .before .before .before .before .before .is .ensures) ∙ c .before .before .before .before .before .before .before .before .if1 .left, sym (c .before .before .before .before .before .before .is2 .ensures) ∙ c .before .before .before .before .before .if2 .left, sym (c .before .before .before .is3 .ensures) ∙ c .before .before .if3 .left, sym (c .before .starts-with-dash .ensures) ∙ c .if4 .taken)
+returns-4 c = rw (
+  sym (c .before .before .before .before .before .before .before .before .before .is .ensures) ∙
+      c .before .before .before .before .before .before .before .before .if1 .left,
+  sym
+      (c .before .before .before .before .before .before .is2 .ensures) ∙ c .before .before .before .before .before .if2 .left,
+  sym
+      (c .before .before .before .is3 .ensures) ∙ c .before .before .if3 .left,
+  sym (c .before .starts-with-dash .ensures) ∙ c .if4 .taken,
+)
 
 returns-5 : tie.Need-returns-5
 unfolding optionOrFile
-returns-5 c = rw (sym (c .before .before .before .before .before .before .before .before .before .is .ensures) ∙ c .before .before .before .before .before .before .before .before .if1 .left, sym (c .before .before .before .before .before .before .is2 .ensures) ∙ c .before .before .before .before .before .if2 .left, sym (c .before .before .before .is3 .ensures) ∙ c .before .before .if3 .left, sym (c .before .starts-with-dash .ensures) ∙ c .if4 .left)
+returns-5 c = rw (
+  sym (c .before .before .before .before .before .before .before .before .before .is .ensures) ∙
+      c .before .before .before .before .before .before .before .before .if1 .left,
+  sym
+      (c .before .before .before .before .before .before .is2 .ensures) ∙ c .before .before .before .before .before .if2 .left,
+  sym
+      (c .before .before .before .is3 .ensures) ∙ c .before .before .if3 .left,
+  sym (c .before .starts-with-dash .ensures) ∙ c .if4 .left,
+)
 
 pub option-or-file-spec : {M : Type 1} → statement M
 option-or-file-spec =

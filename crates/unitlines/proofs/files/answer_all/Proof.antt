@@ -8,7 +8,8 @@ use Rattle.unitlines.proofs.files.answer_all.Statement.{statement}
 use Rattle.unitlines.proofs.files.answer_all.Tie as tie
 
 abbrev Inv-loop : tie.InvT-loop
-Inv-loop text₀ input₀ out₀ count options₀ named₀ i₀ text input out options named i = (length text ≡ length text₀) × (length input ≡ length input₀) × (length out ≡ length out₀)
+Inv-loop text₀ input₀ out₀ count options₀ named₀ i₀ text input out options named i = (length text ≡ length text₀) × (length input ≡ length input₀) ×
+    (length out ≡ length out₀)
 
 abbrev μ-loop : tie.MeasureT-loop
 μ-loop text₀ input₀ out₀ count options₀ named₀ i₀ text input out options named i = count - i

@@ -15,7 +15,8 @@ use Rattle.unitlines.proofs.session.pump.Statement.{statement}
 use Rattle.unitlines.proofs.session.pump.Tie as tie
 
 abbrev Inv-loop : tie.InvT-loop
-Inv-loop chunk out₀ stream₀ used₀ out stream used = (used ≤ length chunk) × (length out ≡ length out₀) × (streamed stream ≡ after (streamed stream₀) (take used chunk))
+Inv-loop chunk out₀ stream₀ used₀ out stream used = (used ≤ length chunk) × (length out ≡ length out₀) × (streamed stream ≡ after (streamed stream₀)
+    (take used chunk))
 
 abbrev μ-loop : tie.MeasureT-loop
 μ-loop chunk out₀ stream₀ used₀ out stream used = length chunk - used

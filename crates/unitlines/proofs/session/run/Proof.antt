@@ -67,21 +67,29 @@ pump-requires : tie.Need-pump-requires Inv-loop μ-loop
 pump-requires c κs = search needs
 
 same-length-7 : tie.Need-same-length-7 Inv-loop μ-loop
-same-length-7 c = c .before .before .before .before .before .before .before .before .before .before .before .before .before .read .kept .1 .0 ∙ c .before .before .before .before .before .before .before .before .before .before .before .before .before .before .before .before .loop .inv .0
+same-length-7 c = c .before .before .before .before .before .before .before .before .before .before .before .before .before .read .kept .1 .0 ∙
+    c .before .before .before .before .before .before .before .before .before .before .before .before .before .before .before .before .loop .inv .0
 
 same-length-8 : tie.Need-same-length-8 Inv-loop μ-loop
-same-length-8 c = c .before .before .before .before .pump .kept .1 .1 .0 ∙ c .before .before .before .before .before .before .before .before .before .before .before .before .before .before .before .before .loop .inv .1
+same-length-8 c = c .before .before .before .before .pump .kept .1 .1 .0 ∙
+    c .before .before .before .before .before .before .before .before .before .before .before .before .before .before .before .before .loop .inv .1
 
 returns-4 : tie.Need-returns-4 Inv-loop μ-loop
 returns-4 c = search needs
 
 loop-less : tie.Need-loop-less Inv-loop μ-loop
-loop-less c = omega (arith, c .before .before .before .before .before .before .before .before .before .before .before .before .before .before .before .before .loop-test .taken)
+loop-less c = omega (
+  arith,
+  c .before .before .before .before .before .before .before .before .before .before .before .before .before .before .before .before .loop-test
+      .taken,
+)
 
 loop-again : tie.Need-loop-again Inv-loop μ-loop
 loop-again c =
-    let l = c .before .before .before .before .before .before .before .before .before .before .before .before .before .before .before .before .before .loop in
-    (c .before .before .before .before .before .before .before .before .before .before .before .before .before .before .read .kept .1 .0 ∙ l .inv .0, c .before .before .before .before .before .pump .kept .1 .1 .0 ∙ l .inv .1)
+    let l = c .before .before .before .before .before .before .before .before .before .before .before .before .before .before .before .before .before .loop in (
+      c .before .before .before .before .before .before .before .before .before .before .before .before .before .before .read .kept .1 .0 ∙ l .inv .0,
+      c .before .before .before .before .before .pump .kept .1 .1 .0 ∙ l .inv .1,
+    )
 
 same-length-9 : tie.Need-same-length-9 Inv-loop μ-loop
 same-length-9 c = search needs

@@ -19,7 +19,8 @@ saturating-sub-requires : tie.Need-saturating-sub-requires
 saturating-sub-requires c κs = search needs
 
 returns-3 : tie.Need-returns-3
-returns-3 c = rw (c .before .recovery-quiet-ms .ensures, c .saturating-sub .ensures, c .before .before .if2 .left) (sym (recover-disarmed _ _ _ (not-false _ (c .before .before .before .if1 .left))))
+returns-3 c = rw (c .before .recovery-quiet-ms .ensures, c .saturating-sub .ensures, c .before .before .if2 .left) (sym (recover-disarmed _ _ _
+    (not-false _ (c .before .before .before .if1 .left))))
 
 pub may-recover-spec : {M : Type 1} → statement M
 may-recover-spec =

@@ -17,7 +17,8 @@ shl-result c = search needs
 
 returns : tie.Need-returns
 unfolding quietWindow
-returns c = rw (c .at-most-steps .ensures) (mod-eq-of-lt (window-fits (c .before .args .«quiet-ms») (c .before .args .self .«retries_without_frame») (search needs)))
+returns c = rw (c .at-most-steps .ensures) (mod-eq-of-lt (window-fits (c .before .args .«quiet-ms») (c .before .args .self .«retries_without_frame»)
+    (search needs)))
 
 pub recovery-quiet-ms-spec : {M : Type 1} → statement M
 recovery-quiet-ms-spec = tie.close (tie.spec at-most-steps-requires cast-result shl-result returns)

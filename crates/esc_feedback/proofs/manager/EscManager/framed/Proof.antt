@@ -33,7 +33,8 @@ returns : tie.Need-returns
 returns c = simp (c .before .one-more .ensures) (sym (framed-unsolicited _ _ _ (c .before .before .enum-told .given .1)))
 
 returns-2 : tie.Need-returns-2
-returns-2 c = simp (c .queued .ensures, c .before .before .answered .ensures) (sym (framed-held _ _ _ _ _ _ (c .before .before .before .before .pending .given .1)))
+returns-2 c = simp (c .queued .ensures, c .before .before .answered .ensures) (sym (framed-held _ _ _ _ _ _
+    (c .before .before .before .before .pending .given .1)))
 
 returns-3 : tie.Need-returns-3
 returns-3 c = simp (c .delivered .ensures, c .before .answered2 .ensures) (sym (framed-delivered _ _ _ _ _ (c .before .before .before .pending2 .given .1)))

@@ -19,7 +19,13 @@ new-requires-4 : tie.Need-new-requires-4
 new-requires-4 c κs = search needs
 
 returns : tie.Need-returns
-returns c = rw (c .new4 .ensures, c .before .new3 .ensures, c .before .before .new2 .ensures, c .before .before .before .none .ensures, c .before .before .before .before .new .ensures)
+returns c = rw (
+  c .new4 .ensures,
+  c .before .new3 .ensures,
+  c .before .before .new2 .ensures,
+  c .before .before .before .none .ensures,
+  c .before .before .before .before .new .ensures,
+)
 
 pub new-spec : {M : Type 1} → statement M
 new-spec =

@@ -25,13 +25,15 @@ mismatched-requires-2 : tie.Need-mismatched-requires-2
 mismatched-requires-2 c κs = search needs
 
 returns-2 : tie.Need-returns-2
-returns-2 c = rw (c .mismatched2 .ensures, c .before .before .before .before .before .before .before .before .heard .ensures) (sym (ack-other _ _ _ _ _ (c .before .before .before .before .before .pending .given .1) (sym (c .before .before .same .ensures) ∙ not-true _ (c .before .if1 .taken))))
+returns-2 c = rw (c .mismatched2 .ensures, c .before .before .before .before .before .before .before .before .heard .ensures) (sym (ack-other _ _ _ _
+    _ (c .before .before .before .before .before .pending .given .1) (sym (c .before .before .same .ensures) ∙ not-true _ (c .before .if1 .taken))))
 
 started-requires : tie.Need-started-requires
 started-requires c κs = search needs
 
 returns-3 : tie.Need-returns-3
-returns-3 c = rw (c .started .ensures, c .before .before .before .before .before .before .before .before .heard .ensures) (sym (ack-same _ _ _ _ _ (c .before .before .before .before .before .pending .given .1) (sym (c .before .before .same .ensures) ∙ not-false _ (c .before .if1 .left))))
+returns-3 c = rw (c .started .ensures, c .before .before .before .before .before .before .before .before .heard .ensures) (sym (ack-same _ _ _ _ _
+    (c .before .before .before .before .before .pending .given .1) (sym (c .before .before .same .ensures) ∙ not-false _ (c .before .if1 .left))))
 
 pub on-actuator-ack-spec : {M : Type 1} → statement M
 on-actuator-ack-spec =

@@ -31,7 +31,8 @@ elapsed-at-least-requires-2 : tie.Need-elapsed-at-least-requires-2
 elapsed-at-least-requires-2 c κs = search needs
 
 returns-2 : tie.Need-returns-2
-returns-2 c = sym (response-waits _ _ _ _ (c .before .before .before .pending2 .given .1) (sym (c .before .elapsed-at-least2 .ensures) ∙ not-true _ (c .if2 .taken)))
+returns-2 c = sym (response-waits _ _ _ _ (c .before .before .before .pending2 .given .1) (sym (c .before .elapsed-at-least2 .ensures) ∙ not-true _
+    (c .if2 .taken)))
 
 timed-out-requires-2 : tie.Need-timed-out-requires-2
 timed-out-requires-2 c κs = search needs

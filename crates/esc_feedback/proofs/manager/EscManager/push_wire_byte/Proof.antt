@@ -18,7 +18,8 @@ enum-told : tie.Need-enum-told
 enum-told c = search needs
 
 returns : tie.Need-returns
-returns c = rw (c .before .before .before .before .before .heard .ensures, c .before .before .before .pushed .ensures) (sym (pushed-nothing _ _ _ (rw (c .before .before .before .pushed .ensures) at (c .enum-told .given .1))))
+returns c = rw (c .before .before .before .before .before .heard .ensures, c .before .before .before .pushed .ensures) (sym (pushed-nothing _ _ _ (rw
+    (c .before .before .before .pushed .ensures) at (c .enum-told .given .1))))
 
 refresh-wire-stats-requires : tie.Need-refresh-wire-stats-requires
 refresh-wire-stats-requires c κs = search needs
@@ -27,7 +28,13 @@ framed-requires : tie.Need-framed-requires
 framed-requires c κs = search needs
 
 returns-2 : tie.Need-returns-2
-returns-2 c = rw (c .framed .ensures, c .before .refresh-wire-stats .ensures, c .before .before .before .before .before .before .before .before .heard .ensures, c .before .before .before .before .before .before .pushed .ensures) (sym (pushed-sample _ _ _ _ (rw (c .before .before .before .before .before .before .pushed .ensures) at (c .before .before .before .parsed .given .1))))
+returns-2 c = rw (
+  c .framed .ensures,
+  c .before .refresh-wire-stats .ensures,
+  c .before .before .before .before .before .before .before .before .heard .ensures,
+  c .before .before .before .before .before .before .pushed .ensures,
+) (sym (pushed-sample _ _ _ _ (rw
+    (c .before .before .before .before .before .before .pushed .ensures) at (c .before .before .before .parsed .given .1))))
 
 pub push-wire-byte-spec : {M : Type 1} → statement M
 push-wire-byte-spec =

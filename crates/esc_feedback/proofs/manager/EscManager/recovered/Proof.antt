@@ -16,7 +16,12 @@ one-more-requires : tie.Need-one-more-requires
 one-more-requires c κs = search needs
 
 returns : tie.Need-returns
-returns c = rw (c .before .one-more .ensures, c .before .before .retried .ensures, c .before .before .before .before .none .ensures, c .before .before .before .before .before .record-wire-discontinuity .ensures)
+returns c = rw (
+  c .before .one-more .ensures,
+  c .before .before .retried .ensures,
+  c .before .before .before .before .none .ensures,
+  c .before .before .before .before .before .record-wire-discontinuity .ensures,
+)
 
 pub recovered-spec : {M : Type 1} → statement M
 recovered-spec =

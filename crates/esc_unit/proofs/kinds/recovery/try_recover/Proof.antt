@@ -28,7 +28,8 @@ answered-requires-2 c κs = search needs
 returns-2 : tie.Need-returns-2
 returns-2 c =
     let e = c .before .before .before .before .before .try-recover .ensures in
-    rw (c .answered2 .ensures, c .before .samples-dropped .ensures, e) (sym (step-recovery _ _ _ _ true (sym (ap (λ (r : Recovered). r .answer) e) ∙ not-false _ (c .before .before .if1 .left))))
+    rw (c .answered2 .ensures, c .before .samples-dropped .ensures, e) (sym (step-recovery _ _ _ _ true (sym (ap (λ (r : Recovered). r .answer) e) ∙
+    not-false _ (c .before .before .if1 .left))))
 
 pub try-recover-spec : {M : Type 1} → statement M
 try-recover-spec =

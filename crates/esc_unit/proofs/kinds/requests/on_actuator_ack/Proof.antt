@@ -42,7 +42,8 @@ returns-2 c =
 returns-3 : tie.Need-returns-3
 returns-3 c =
     let e = c .before .before .before .before .before .before .before .on-actuator-ack .ensures in
-    rw (c .answered3 .ensures, c .before .before .booked .ensures, e) (sym (step-ack _ _ _ _ _ (rw e at (c .before .before .before .before .outcome .given .1))))
+    rw (c .answered3 .ensures, c .before .before .booked .ensures, e) (sym (step-ack _ _ _ _ _ (rw e at
+    (c .before .before .before .before .outcome .given .1))))
 
 pub on-actuator-ack-spec : {M : Type 1} → statement M
 on-actuator-ack-spec =

@@ -34,7 +34,8 @@ returns c =
     (c .before .before .answered .ensures)
 
 returns-2 : tie.Need-returns-2
-returns-2 c = meets-refusal _ _ _ _ _ _ (c .refused .ensures) (call-refused _ _ _ _ (sym (c .before .before .before .before .admit .ensures) ∙ ap recordRead (c .before .before .taken2 .given .1))) refl
+returns-2 c = meets-refusal _ _ _ _ _ _ (c .refused .ensures) (call-refused _ _ _ _ (sym (c .before .before .before .before .admit .ensures) ∙ ap
+    recordRead (c .before .before .taken2 .given .1))) refl
 
 pub call-spec : {M : Type 1} → statement M
 call-spec =

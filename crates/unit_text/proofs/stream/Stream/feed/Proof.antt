@@ -18,7 +18,19 @@ use Rattle.unit_text.specs.Answering.{admittedBy}
 use Rattle.unit_text.specs.Stream.{longestLine}
 use Rattle.unit_text.specs.WireLine.{CollectedAt}
 use Rattle.unit_text.specs.declared.next_record.NextRecord.{NextRecord}
-use Rattle.unit_text.proofs.AnswersLaws.{answers-refused, answers-step, answers-next, answers-marked, answers-rejected, answers-accepted, answers-acked, answers-polled, answers-none, answers-heard, answers-collected}
+use Rattle.unit_text.proofs.AnswersLaws.{
+  answers-refused,
+  answers-step,
+  answers-next,
+  answers-marked,
+  answers-rejected,
+  answers-accepted,
+  answers-acked,
+  answers-polled,
+  answers-none,
+  answers-heard,
+  answers-collected,
+}
 use Rattle.unit_text.proofs.Feeding.{Feeding, feeding-none, held-line, part-left, fed-stop, fed-end, feeding-open, feeding-line, feeding-record, goes-on}
 use Rattle.unit_text.proofs.stream.Stream.feed.Statement.{statement}
 use Rattle.unit_text.proofs.stream.Stream.feed.Tie as tie
@@ -32,7 +44,8 @@ abbrev μ-loop : tie.MeasureT-loop
 μ-loop chunk out₀ digits bytes₀ opened₀ manager₀ books₀ line₀ held₀ used₀ written₀ out bytes opened manager books line held used written = length chunk - used
 
 -- no more than the buffer is held, whatever the stream says
-held : (c : tie.After-at-most-held Inv-loop μ-loop) → take (c .before .before .before .before .before .before .before .before .args .self .held) (c .before .before .before .before .before .before .before .before .args .self .line)
+held : (c : tie.After-at-most-held Inv-loop μ-loop) → take (c .before .before .before .before .before .before .before .before .args .self .held)
+    (c .before .before .before .before .before .before .before .before .args .self .line)
     ≡ take (c .at-most-held .result) (c .before .before .before .before .before .before .before .before .args .self .line)
 held c = held-line _ (c .before .before .before .before .before .before .before .before .args .self .held) _ (search needs) (c .at-most-held .ensures)
 
@@ -54,7 +67,8 @@ module _ (t : tie.Else1 Inv-loop μ-loop) where
   abbrev heard : Reply (List ℕ)
   heard = readLine (begun ++ firstLine left-over)
 
-  roomy : longestLine ≤ length (now (t .before .before .before .before .before .before .before .before .before .before .before .args .out)) - t .before .before .loop .written
+  roomy : longestLine ≤ length (now (t .before .before .before .before .before .before .before .before .before .before .before .args .out)) -
+      t .before .before .loop .written
   roomy = omega (arith, t .before .before .loop .inv .long, t .if1 .left)
 
   room : t .before .before .loop .written + longestLine ≤ length (t .before .before .loop .out)
@@ -99,7 +113,8 @@ module _ (c : tie.After-bytes2 Inv-loop μ-loop) where
 
 -- a record that was refused
 module _ (c : tie.After-known-told3 Inv-loop μ-loop) where
-  refusal : RecordEnded (was (turn (c .before .before .before)) .opened) (begun (turn (c .before .before .before))) (left-over (turn (c .before .before .before)))
+  refusal : RecordEnded (was (turn (c .before .before .before)) .opened) (begun (turn (c .before .before .before))) (left-over (turn
+      (c .before .before .before)))
       (refused (c .before .found2 .given .0 .0)) (c .before .found2 .given .0 .1 .0) (line-after (c .before .before .before))
   refusal = found (c .before .before .before) _ (c .before .found2 .given .1)
 
@@ -111,6 +126,14 @@ module _ (c : tie.After-known-told4 Inv-loop μ-loop) where
   taken : RecordEnded (was record-turn .opened) (begun record-turn) (left-over record-turn)
       (accepted (c .before .found3 .given .0 .0)) (c .before .found3 .given .0 .1 .0) (line-after (c .before .before .before))
   taken = found (c .before .before .before) _ (c .before .found3 .given .1)
+
+  -- there is room for its answer, and less of the chunk is left behind it
+  space : record-turn .before .before .loop .written + longestLine ≤ length (record-turn .before .before .loop .out)
+  space = room record-turn
+
+  shorter : length (chunk record-turn) - (record-turn .before .before .loop .used + c .before .found3 .given .0 .1 .0)
+      < length (chunk record-turn) - record-turn .before .before .loop .used
+  shorter = less (c .before .before .before) taken
 
   takes : (r : Record) → c .before .found3 .given .0 .0 ≡ r → admittedBy (was record-turn .opened) (heard record-turn) ≡ accepted r
   takes r e = taken .admitted ∙ ap accepted e
@@ -155,7 +178,12 @@ add-used : tie.Need-add-used Inv-loop μ-loop
 add-used c = search needs
 
 add-used-2 : tie.Need-add-used-2 Inv-loop μ-loop
-add-used-2 c = omega (arith, c .before .before .before .before .before .before .before .before .before .before .before .before .before .before .before .before .before .before .before .before .before .before .before .before .before .good, passes (c .before .before .before .before .before .before .before))
+add-used-2 c = omega (
+  arith,
+  c .before .before .before .before .before .before .before .before .before .before .before .before .before .before .before .before .before
+      .before .before .before .before .before .before .before .before .good,
+  passes (c .before .before .before .before .before .before .before),
+)
 
 loop-less : tie.Need-loop-less Inv-loop μ-loop
 loop-less c = omega (arith, passes (c .before .before .before .before .before .before .before))
@@ -194,13 +222,23 @@ slice-aggregate-next-record-2 : tie.Need-slice-aggregate-next-record-2 Inv-loop 
 slice-aggregate-next-record-2 c = search needs
 
 next-record-requires : tie.Need-next-record-requires Inv-loop μ-loop
-next-record-requires c κs = (c .before .before .before .before .before .before .before .before .before .before .before .before .before .before .before .before .before .before .digits .ensures, c .before .before .before .before .before .before .before .before .before .before .before .before .loop .inv .room, c .before .before .before .before .before .before .before .before .before .before .before .before .loop .inv .buffer, c .before .before .before .before .before .before .before .before .before .before .before .before .loop .inv .holds)
+next-record-requires c κs = (
+  c .before .before .before .before .before .before .before .before .before .before .before .before .before .before .before .before .before
+      .before .digits .ensures,
+  c .before .before .before .before .before .before .before .before .before .before .before .before .loop .inv .room,
+  c .before .before .before .before .before .before .before .before .before .before .before .before .loop .inv .buffer,
+  c .before .before .before .before .before .before .before .before .before .before .before .before .loop .inv .holds,
+)
 
 enum-known-found : tie.Need-enum-known-found Inv-loop μ-loop
 enum-known-found c = search needs
 
 loop-less-2 : tie.Need-loop-less-2 Inv-loop μ-loop
-loop-less-2 c = omega (arith, c .before .before .before .before .before .before .before .before .before .before .before .before .before .before .before .before .before .loop-test .taken)
+loop-less-2 c = omega (
+  arith,
+  c .before .before .before .before .before .before .before .before .before .before .before .before .before .before .before .before .before
+      .loop-test .taken,
+)
 
 loop-again-2 : tie.Need-loop-again-2 Inv-loop μ-loop
 loop-again-2 c =
@@ -212,10 +250,16 @@ enum-known-found-2 : tie.Need-enum-known-found-2 Inv-loop μ-loop
 enum-known-found-2 c = search needs
 
 add-used-3 : tie.Need-add-used-3 Inv-loop μ-loop
-add-used-3 c = omega (arith, c .before .before .before .before .before .before .before .before .before .before .before .before .before .before .before .before .before .before .before .before .before .before .before .before .before .before .before .good, goes (c .before .before .before) (refusal c))
+add-used-3 c = omega (
+  arith,
+  c .before .before .before .before .before .before .before .before .before .before .before .before .before .before .before .before .before
+      .before .before .before .before .before .before .before .before .before .before .good,
+  goes (c .before .before .before) (refusal c),
+)
 
 print-refusal-requires : tie.Need-print-refusal-requires Inv-loop μ-loop
-print-refusal-requires c κs = room (c .before .before .before .before .before .before .before .before .before .before .before .before .before .before .before .before .before)
+print-refusal-requires c κs = room
+    (c .before .before .before .before .before .before .before .before .before .before .before .before .before .before .before .before .before)
 
 loop-less-3 : tie.Need-loop-less-3 Inv-loop μ-loop
 loop-less-3 c = less (c .before .before .before .before .before .before .before) (refusal (c .before .before .before .before))
@@ -232,7 +276,12 @@ enum-known-found-3 : tie.Need-enum-known-found-3 Inv-loop μ-loop
 enum-known-found-3 c = search needs
 
 add-used-4 : tie.Need-add-used-4 Inv-loop μ-loop
-add-used-4 c = omega (arith, c .before .before .before .before .before .before .before .before .before .before .before .before .before .before .before .before .before .before .before .before .before .before .before .before .before .before .before .good, goes (c .before .before .before) (taken c))
+add-used-4 c = omega (
+  arith,
+  c .before .before .before .before .before .before .before .before .before .before .before .before .before .before .before .before .before
+      .before .before .before .before .before .before .before .before .before .before .good,
+  goes (c .before .before .before) (taken c),
+)
 
 enum-known-record : tie.Need-enum-known-record Inv-loop μ-loop
 enum-known-record c = search needs
@@ -244,10 +293,10 @@ next-text-requires : tie.Need-next-text-requires Inv-loop μ-loop
 next-text-requires c κs = search needs
 
 print-text-requires : tie.Need-print-text-requires Inv-loop μ-loop
-print-text-requires c κs = (answer-fits _ (c .before .next-text .ensures .0), room (c .before .before .before .before .before .before .before .before .before .before .before .before .before .before .before .before .before .before .before .before .before .before))
+print-text-requires c κs = (answer-fits _ (c .before .next-text .ensures .0), space (c .before .before .before .before .before .before))
 
 loop-less-4 : tie.Need-loop-less-4 Inv-loop μ-loop
-loop-less-4 c = less (c .before .before .before .before .before .before .before .before .before .before .before .before) (taken (c .before .before .before .before .before .before .before .before .before))
+loop-less-4 c = shorter (c .before .before .before .before .before .before .before .before .before)
 
 loop-again-4 : tie.Need-loop-again-4 Inv-loop μ-loop
 loop-again-4 c =
@@ -256,7 +305,8 @@ loop-again-4 c =
     let l = turn b .before .before .loop in
     (feeding-record (l .inv) (roomy (turn b)) (taken t)
     (answers-next (was (turn b)) (heard (turn b)) _ (takes t _ (c .before .before .before .before .before .before .before .«record» .given .1)))
-    (rw (c .before .before .before .before .next-text .ensures .1, c .before .before .before .before .before .next-request .ensures) at (c .before .before .print-text .ensures))
+    (rw (c .before .before .before .before .next-text .ensures .1, c .before .before .before .before .before .next-request .ensures) at
+    (c .before .before .print-text .ensures))
     (c .before .before .print-text .kept .1 .0) (bytes-room b))
 
 enum-known-record-2 : tie.Need-enum-known-record-2 Inv-loop μ-loop
@@ -266,10 +316,10 @@ mark-request-queued-requires : tie.Need-mark-request-queued-requires Inv-loop μ
 mark-request-queued-requires c κs = search needs
 
 print-flag-requires-2 : tie.Need-print-flag-requires-2 Inv-loop μ-loop
-print-flag-requires-2 c κs = room (c .before .before .before .before .before .before .before .before .before .before .before .before .before .before .before .before .before .before .before .before .before .before)
+print-flag-requires-2 c κs = space (c .before .before .before .before .before .before)
 
 loop-less-5 : tie.Need-loop-less-5 Inv-loop μ-loop
-loop-less-5 c = less (c .before .before .before .before .before .before .before .before .before .before .before .before) (taken (c .before .before .before .before .before .before .before .before .before))
+loop-less-5 c = shorter (c .before .before .before .before .before .before .before .before .before)
 
 loop-again-5 : tie.Need-loop-again-5 Inv-loop μ-loop
 loop-again-5 c =
@@ -292,10 +342,10 @@ enum-told-2 : tie.Need-enum-told-2 Inv-loop μ-loop
 enum-told-2 c = search needs
 
 print-flag-requires-3 : tie.Need-print-flag-requires-3 Inv-loop μ-loop
-print-flag-requires-3 c κs = room (c .before .before .before .before .before .before .before .before .before .before .before .before .before .before .before .before .before .before .before .before .before .before .before .before)
+print-flag-requires-3 c κs = space (c .before .before .before .before .before .before .before .before)
 
 loop-less-6 : tie.Need-loop-less-6 Inv-loop μ-loop
-loop-less-6 c = less (c .before .before .before .before .before .before .before .before .before .before .before .before .before .before) (taken (c .before .before .before .before .before .before .before .before .before .before .before))
+loop-less-6 c = shorter (c .before .before .before .before .before .before .before .before .before .before .before)
 
 loop-again-6 : tie.Need-loop-again-6 Inv-loop μ-loop
 loop-again-6 c =
@@ -304,7 +354,10 @@ loop-again-6 c =
     let l = turn b .before .before .loop in
     rw (c .before .before .before .before .before .before .before .on-actuator-ack .ensures)
     (feeding-record (l .inv) (roomy (turn b)) (taken t)
-    (answers-rejected (was (turn b)) (heard (turn b)) _ _ (takes t _ (c .before .before .before .before .before .before .before .before .before .record3 .given .1)) (rw (c .before .before .before .before .before .before .before .on-actuator-ack .ensures) at (c .before .before .before .before .enum-told2 .given .1)))
+    (answers-rejected (was (turn b)) (heard (turn b)) _ _ (takes t _
+    (c .before .before .before .before .before .before .before .before .before .record3 .given .1)) (rw
+    (c .before .before .before .before .before .before .before .on-actuator-ack .ensures) at
+    (c .before .before .before .before .enum-told2 .given .1)))
     (c .before .before .print-flag3 .ensures)
     (c .before .before .print-flag3 .kept .1 .0) (bytes-room b))
 
@@ -312,10 +365,10 @@ enum-told-3 : tie.Need-enum-told-3 Inv-loop μ-loop
 enum-told-3 c = search needs
 
 print-flag-requires-4 : tie.Need-print-flag-requires-4 Inv-loop μ-loop
-print-flag-requires-4 c κs = room (c .before .before .before .before .before .before .before .before .before .before .before .before .before .before .before .before .before .before .before .before .before .before .before .before)
+print-flag-requires-4 c κs = space (c .before .before .before .before .before .before .before .before)
 
 loop-less-7 : tie.Need-loop-less-7 Inv-loop μ-loop
-loop-less-7 c = less (c .before .before .before .before .before .before .before .before .before .before .before .before .before .before) (taken (c .before .before .before .before .before .before .before .before .before .before .before))
+loop-less-7 c = shorter (c .before .before .before .before .before .before .before .before .before .before .before)
 
 loop-again-7 : tie.Need-loop-again-7 Inv-loop μ-loop
 loop-again-7 c =
@@ -324,7 +377,10 @@ loop-again-7 c =
     let l = turn b .before .before .loop in
     rw (c .before .before .before .before .before .before .before .on-actuator-ack .ensures)
     (feeding-record (l .inv) (roomy (turn b)) (taken t)
-    (answers-accepted (was (turn b)) (heard (turn b)) _ _ (takes t _ (c .before .before .before .before .before .before .before .before .before .record3 .given .1)) (rw (c .before .before .before .before .before .before .before .on-actuator-ack .ensures) at (c .before .before .before .before .enum-told3 .given .1)))
+    (answers-accepted (was (turn b)) (heard (turn b)) _ _ (takes t _
+    (c .before .before .before .before .before .before .before .before .before .record3 .given .1)) (rw
+    (c .before .before .before .before .before .before .before .on-actuator-ack .ensures) at
+    (c .before .before .before .before .enum-told3 .given .1)))
     (c .before .before .print-flag4 .ensures)
     (c .before .before .print-flag4 .kept .1 .0) (bytes-room b))
 
@@ -338,20 +394,31 @@ delivered-text-requires : tie.Need-delivered-text-requires Inv-loop μ-loop
 delivered-text-requires c κs = search needs
 
 print-text-requires-2 : tie.Need-print-text-requires-2 Inv-loop μ-loop
-print-text-requires-2 c κs = (delivered-fits _ (c .before .delivered-text .ensures .0), room (c .before .before .before .before .before .before .before .before .before .before .before .before .before .before .before .before .before .before .before .before .before .before .before .before .before .before .before .before))
+print-text-requires-2 c κs = (
+  delivered-fits _ (c .before .delivered-text .ensures .0),
+  space
+      (c .before .before .before .before .before .before .before .before .before .before .before .before),
+)
 
 loop-less-8 : tie.Need-loop-less-8 Inv-loop μ-loop
-loop-less-8 c = less (c .before .before .before .before .before .before .before .before .before .before .before .before .before .before .before .before .before .before) (taken (c .before .before .before .before .before .before .before .before .before .before .before .before .before .before .before))
+loop-less-8 c = shorter (c .before .before .before .before .before .before .before .before .before .before .before .before .before .before .before)
 
 loop-again-8 : tie.Need-loop-again-8 Inv-loop μ-loop
 loop-again-8 c =
     let t = c .before .before .before .before .before .before .before .before .before .before .before .before .before .before .before in
     let b = t .before .before .before in
     let l = turn b .before .before .loop in
-    rw (c .before .before .before .before .before .before .before .before .before .before .before .on-actuator-ack .ensures, c .before .before .before .before .before .before .booked .ensures)
+    rw (
+      c .before .before .before .before .before .before .before .before .before .before .before .on-actuator-ack .ensures,
+      c .before .before .before .before .before .before .booked .ensures,
+    )
     (feeding-record (l .inv) (roomy (turn b)) (taken t)
-    (answers-acked (was (turn b)) (heard (turn b)) _ _ (takes t _ (c .before .before .before .before .before .before .before .before .before .before .before .before .before .record3 .given .1)) _ (rw (c .before .before .before .before .before .before .before .before .before .before .before .on-actuator-ack .ensures) at (c .before .before .before .before .before .before .before .before .outcome .given .1)))
-    (rw (c .before .before .before .before .delivered-text .ensures .1, c .before .before .before .before .before .before .booked .ensures) at (c .before .before .print-text2 .ensures))
+    (answers-acked (was (turn b)) (heard (turn b)) _ _ (takes t _
+    (c .before .before .before .before .before .before .before .before .before .before .before .before .before .record3 .given .1)) _ (rw
+    (c .before .before .before .before .before .before .before .before .before .before .before .on-actuator-ack .ensures) at
+    (c .before .before .before .before .before .before .before .before .outcome .given .1)))
+    (rw (c .before .before .before .before .delivered-text .ensures .1, c .before .before .before .before .before .before .booked .ensures) at
+    (c .before .before .print-text2 .ensures))
     (c .before .before .print-text2 .kept .1 .0) (bytes-room b))
 
 enum-known-record-4 : tie.Need-enum-known-record-4 Inv-loop μ-loop
@@ -364,10 +431,10 @@ timeout-text-requires : tie.Need-timeout-text-requires Inv-loop μ-loop
 timeout-text-requires c κs = search needs
 
 print-text-requires-3 : tie.Need-print-text-requires-3 Inv-loop μ-loop
-print-text-requires-3 c κs = (answer-fits _ (c .before .timeout-text .ensures .0), room (c .before .before .before .before .before .before .before .before .before .before .before .before .before .before .before .before .before .before .before .before .before .before .before))
+print-text-requires-3 c κs = (answer-fits _ (c .before .timeout-text .ensures .0), space (c .before .before .before .before .before .before .before))
 
 loop-less-9 : tie.Need-loop-less-9 Inv-loop μ-loop
-loop-less-9 c = less (c .before .before .before .before .before .before .before .before .before .before .before .before .before) (taken (c .before .before .before .before .before .before .before .before .before .before))
+loop-less-9 c = shorter (c .before .before .before .before .before .before .before .before .before .before)
 
 loop-again-9 : tie.Need-loop-again-9 Inv-loop μ-loop
 loop-again-9 c =
@@ -377,7 +444,8 @@ loop-again-9 c =
     rw (c .before .before .before .before .before .before .poll-timeout .ensures)
     (feeding-record (l .inv) (roomy (turn b)) (taken t)
     (answers-polled (was (turn b)) (heard (turn b)) _ (takes t _ (c .before .before .before .before .before .before .before .before .record4 .given .1)))
-    (rw (c .before .before .before .before .timeout-text .ensures .1, c .before .before .before .before .before .before .poll-timeout .ensures) at (c .before .before .print-text3 .ensures))
+    (rw (c .before .before .before .before .timeout-text .ensures .1, c .before .before .before .before .before .before .poll-timeout .ensures) at
+    (c .before .before .print-text3 .ensures))
     (c .before .before .print-text3 .kept .1 .0) (bytes-room b))
 
 enum-known-record-5 : tie.Need-enum-known-record-5 Inv-loop μ-loop
@@ -390,10 +458,10 @@ enum-told-4 : tie.Need-enum-told-4 Inv-loop μ-loop
 enum-told-4 c = search needs
 
 print-flag-requires-5 : tie.Need-print-flag-requires-5 Inv-loop μ-loop
-print-flag-requires-5 c κs = room (c .before .before .before .before .before .before .before .before .before .before .before .before .before .before .before .before .before .before .before .before .before .before .before .before)
+print-flag-requires-5 c κs = space (c .before .before .before .before .before .before .before .before)
 
 loop-less-10 : tie.Need-loop-less-10 Inv-loop μ-loop
-loop-less-10 c = less (c .before .before .before .before .before .before .before .before .before .before .before .before .before .before) (taken (c .before .before .before .before .before .before .before .before .before .before .before))
+loop-less-10 c = shorter (c .before .before .before .before .before .before .before .before .before .before .before)
 
 loop-again-10 : tie.Need-loop-again-10 Inv-loop μ-loop
 loop-again-10 c =
@@ -402,7 +470,10 @@ loop-again-10 c =
     let l = turn b .before .before .loop in
     rw (c .before .before .before .before .before .before .before .push-wire-byte .ensures)
     (feeding-record (l .inv) (roomy (turn b)) (taken t)
-    (answers-none (was (turn b)) (heard (turn b)) _ _ (takes t _ (c .before .before .before .before .before .before .before .before .before .record5 .given .1)) (rw (c .before .before .before .before .before .before .before .push-wire-byte .ensures) at (c .before .before .before .before .enum-told4 .given .1)))
+    (answers-none (was (turn b)) (heard (turn b)) _ _ (takes t _
+    (c .before .before .before .before .before .before .before .before .before .record5 .given .1)) (rw
+    (c .before .before .before .before .before .before .before .push-wire-byte .ensures) at
+    (c .before .before .before .before .enum-told4 .given .1)))
     (c .before .before .print-flag5 .ensures)
     (c .before .before .print-flag5 .kept .1 .0) (bytes-room b))
 
@@ -416,20 +487,31 @@ delivered-text-requires-2 : tie.Need-delivered-text-requires-2 Inv-loop μ-loop
 delivered-text-requires-2 c κs = search needs
 
 print-text-requires-4 : tie.Need-print-text-requires-4 Inv-loop μ-loop
-print-text-requires-4 c κs = (delivered-fits _ (c .before .delivered-text2 .ensures .0), room (c .before .before .before .before .before .before .before .before .before .before .before .before .before .before .before .before .before .before .before .before .before .before .before .before .before .before .before .before))
+print-text-requires-4 c κs = (
+  delivered-fits _ (c .before .delivered-text2 .ensures .0),
+  space
+      (c .before .before .before .before .before .before .before .before .before .before .before .before),
+)
 
 loop-less-11 : tie.Need-loop-less-11 Inv-loop μ-loop
-loop-less-11 c = less (c .before .before .before .before .before .before .before .before .before .before .before .before .before .before .before .before .before .before) (taken (c .before .before .before .before .before .before .before .before .before .before .before .before .before .before .before))
+loop-less-11 c = shorter (c .before .before .before .before .before .before .before .before .before .before .before .before .before .before .before)
 
 loop-again-11 : tie.Need-loop-again-11 Inv-loop μ-loop
 loop-again-11 c =
     let t = c .before .before .before .before .before .before .before .before .before .before .before .before .before .before .before in
     let b = t .before .before .before in
     let l = turn b .before .before .loop in
-    rw (c .before .before .before .before .before .before .before .before .before .before .before .push-wire-byte .ensures, c .before .before .before .before .before .before .booked2 .ensures)
+    rw (
+      c .before .before .before .before .before .before .before .before .before .before .before .push-wire-byte .ensures,
+      c .before .before .before .before .before .before .booked2 .ensures,
+    )
     (feeding-record (l .inv) (roomy (turn b)) (taken t)
-    (answers-heard (was (turn b)) (heard (turn b)) _ _ (takes t _ (c .before .before .before .before .before .before .before .before .before .before .before .before .before .record5 .given .1)) _ (rw (c .before .before .before .before .before .before .before .before .before .before .before .push-wire-byte .ensures) at (c .before .before .before .before .before .before .before .before .update .given .1)))
-    (rw (c .before .before .before .before .delivered-text2 .ensures .1, c .before .before .before .before .before .before .booked2 .ensures) at (c .before .before .print-text4 .ensures))
+    (answers-heard (was (turn b)) (heard (turn b)) _ _ (takes t _
+    (c .before .before .before .before .before .before .before .before .before .before .before .before .before .record5 .given .1)) _ (rw
+    (c .before .before .before .before .before .before .before .before .before .before .before .push-wire-byte .ensures) at
+    (c .before .before .before .before .before .before .before .before .update .given .1)))
+    (rw (c .before .before .before .before .delivered-text2 .ensures .1, c .before .before .before .before .before .before .booked2 .ensures) at
+    (c .before .before .print-text4 .ensures))
     (c .before .before .print-text4 .kept .1 .0) (bytes-room b))
 
 step-requires : tie.Need-step-requires Inv-loop μ-loop
@@ -439,10 +521,10 @@ answer-text-requires : tie.Need-answer-text-requires Inv-loop μ-loop
 answer-text-requires c κs = search needs
 
 print-text-requires-5 : tie.Need-print-text-requires-5 Inv-loop μ-loop
-print-text-requires-5 c κs = (answer-fits _ (c .before .answer-text .ensures .0), room (c .before .before .before .before .before .before .before .before .before .before .before .before .before .before .before .before .before .before .before .before .before .before .before))
+print-text-requires-5 c κs = (answer-fits _ (c .before .answer-text .ensures .0), space (c .before .before .before .before .before .before .before))
 
 loop-less-12 : tie.Need-loop-less-12 Inv-loop μ-loop
-loop-less-12 c = less (c .before .before .before .before .before .before .before .before .before .before .before .before .before) (taken (c .before .before .before .before .before .before .before .before .before .before))
+loop-less-12 c = shorter (c .before .before .before .before .before .before .before .before .before .before)
 
 loop-again-12 : tie.Need-loop-again-12 Inv-loop μ-loop
 loop-again-12 c =
