@@ -3,7 +3,7 @@ use mathlib.Core.Path.{_≡_, refl, _∙_, ap}
 use mathlib.Core.List.{List, [], _∷_}
 use Rattle.base.specs.Reply.{Reply}
 use Rattle.esc_unit.specs.Unit.{neverOpened, callOf}
-use Rattle.esc_records.specs.declared.answer.Answer.{Answer}
+use Rattle.esc_answers.specs.declared.answer.Answer.{Answer}
 use Rattle.esc_unit.specs.declared.unit.Unit.{Unit}
 use Rattle.booking.specs.History.{since}
 use Rattle.booking.specs.Rule.{ruleFor}

@@ -8,7 +8,7 @@ use Rattle.blheli_telemetry.specs.Crc.{crcBit, crcBits, crcByte, crcFrom, crcOf
 use Rattle.blheli_telemetry.specs.Frame.{telemetryOf, payloadOf}
 use Rattle.base.specs.Due.{due}
 use Rattle.esc_records.specs.Record.{recordOf, readRecord}
-use Rattle.esc_records.specs.Answer.{
+use Rattle.esc_answers.specs.Answer.{
   requestBytes,
   sampleBytes,
   deliveredBytes,

@@ -12,7 +12,7 @@ use Rattle.blheli_telemetry.specs.Frame.{telemetryOf, payloadOf}
 use Rattle.base.specs.Due.{due}
 use Rattle.esc_feedback.specs.Config.{legacyUart}
 use Rattle.esc_records.specs.Record.{recordOf, readRecord}
-use Rattle.esc_records.specs.Answer.{
+use Rattle.esc_answers.specs.Answer.{
   requestBytes,
   sampleBytes,
   deliveredBytes,

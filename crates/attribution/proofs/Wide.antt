@@ -16,7 +16,7 @@ use Rattle.esc_records.specs.Record.{recordOf, readRecord, knownKind, widthOf, 
 use Rattle.esc_unit.specs.Unit.{neverOpened, callOf}
 use Rattle.esc_records.specs.declared.record.Record.{Record}
 use Rattle.esc_records.specs.declared.record.Record.the-variants as kind
-use Rattle.esc_records.specs.declared.answer.Answer.{Answer}
+use Rattle.esc_answers.specs.declared.answer.Answer.{Answer}
 use Rattle.esc_unit.specs.declared.unit.Unit.{Unit}
 use Rattle.booking.specs.History.{Seen, seen}
 use Rattle.attribution.specs.Marks.{Marked, callsOf, MarkedHistory, feedMarked, runMarked, LogEntry, Log, logged, logOf, logAfter}

@@ -6,7 +6,7 @@ use Rattle.base.specs.Reply.{Reply, accepted, refused}
 use Rattle.esc_records.specs.Record.{readRecord}
 use Rattle.esc_unit.specs.Unit.{neverOpened, callOf}
 use Rattle.esc_records.specs.declared.record.Record.{Record}
-use Rattle.esc_records.specs.declared.answer.Answer.{Answer}
+use Rattle.esc_answers.specs.declared.answer.Answer.{Answer}
 use Rattle.esc_unit.specs.declared.unit.Unit.{Unit}
 use Rattle.booking.specs.History.{Call, Event, History, Seen, seen, Past, Since, then}
 use Rattle.booking.specs.Claims.{pastOf}

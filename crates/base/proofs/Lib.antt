@@ -1,5 +1,5 @@
 -- Read in this order: two ways to split a proof (ByCases, Table); numbers and their bytes, runs of bytes in a buffer, bytes handed over;
--- document 01's cases of Due.
+-- document 01's cases of Due, and bytes that rise, of which cases are made.
 pub mod ByCases
 pub mod Both
 pub mod Table
@@ -9,3 +9,4 @@ pub mod NumberLaws
 pub mod PutLaws
 pub mod HandLaws
 pub mod Cases
+pub mod Rising

@@ -8,9 +8,9 @@ use lib.ListN.{length}
 use Rattle.base.specs.Choice.{pick}
 use Rattle.base.specs.Reply.{Reply, accepted, refused, isAccepted}
 use Rattle.esc_records.specs.Record.{readRecord}
-use Rattle.esc_records.specs.Answer.{answerBytes}
+use Rattle.esc_answers.specs.Answer.{answerBytes}
 use Rattle.esc_records.specs.declared.record.Record.{Record}
-use Rattle.esc_records.specs.declared.answer.Answer.{Answer}
+use Rattle.esc_answers.specs.declared.answer.Answer.{Answer}
 use Rattle.booking.specs.History.{since, Call}
 use Rattle.booking.specs.Rule.{replyTo, withRoom, replyOn, ruleFor}
 use Rattle.booking.specs.Run.{run}

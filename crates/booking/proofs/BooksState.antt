@@ -21,7 +21,7 @@ use Rattle.esc_lanes.specs.declared.samples.EscSamples.{EscSamples}
 use Rattle.esc_books.specs.Figures.{noFigure, withSample, figureAt, figuresWith}
 use Rattle.esc_books.specs.Books.{noBooks, checkedBy, samplesDropped, bookedIn, idleStatus, sampleOf, storedAt}
 use Rattle.esc_books.specs.declared.figures.Figures.{Figures}
-use Rattle.esc_records.specs.declared.answer.StoredAnswer.the-variants as storedAnswer
+use Rattle.esc_answers.specs.declared.answer.StoredAnswer.the-variants as storedAnswer
 use Rattle.esc_books.specs.declared.books.Books.{Books}
 use Rattle.esc_books.specs.declared.books.Booked.{Booked}
 use Rattle.booking.specs.History.{Check, Seen, Past}

@@ -8,9 +8,9 @@ use Rattle.esc_lanes.specs.declared.request.EscActuatorAck.{EscActuatorAck}
 use Rattle.esc_lanes.specs.declared.request.EscTelemetryUpdate.{EscTelemetryUpdate}
 use Rattle.esc_records.specs.declared.record.Record.{Record}
 use Rattle.esc_records.specs.declared.record.Record.the-variants as kind
-use Rattle.esc_records.specs.declared.answer.IdleAnswer.{IdleAnswer}
-use Rattle.esc_records.specs.declared.answer.Answer.{Answer}
-use Rattle.esc_records.specs.declared.answer.Answer.the-variants as answer
+use Rattle.esc_answers.specs.declared.answer.IdleAnswer.{IdleAnswer}
+use Rattle.esc_answers.specs.declared.answer.Answer.{Answer}
+use Rattle.esc_answers.specs.declared.answer.Answer.the-variants as answer
 use Rattle.booking.specs.History.{Opening, Past, Since, since, seen}
 use Rattle.booking.specs.Wire.{Frame, wire, frameAt, timed}
 use Rattle.booking.specs.Booking.{bookedTo, latestFrame, newlyStarted, startedRequest}

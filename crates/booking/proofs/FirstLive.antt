@@ -13,7 +13,7 @@ use Rattle.base.specs.Due.{due}
 use Rattle.esc_lanes.specs.declared.output.Lane.the-variants.{Output2}
 use Rattle.esc_lanes.specs.declared.request.EscActuatorRequest.{EscActuatorRequest}
 use Rattle.esc_records.specs.Record.{recordOf, readRecord}
-use Rattle.esc_records.specs.Answer.{
+use Rattle.esc_answers.specs.Answer.{
   requestBytes,
   sampleBytes,
   deliveredBytes,
@@ -27,7 +27,7 @@ use Rattle.esc_records.specs.Answer.{
   answerBytes,
   replyBytes,
 }
-use Rattle.esc_records.specs.declared.answer.IdleAnswer.the-variants.{NoCheck}
+use Rattle.esc_answers.specs.declared.answer.IdleAnswer.the-variants.{NoCheck}
 use Rattle.booking.specs.History.{since}
 use Rattle.booking.specs.Wire.{Frame, wire, latest, frameAt}
 use Rattle.booking.specs.Booking.{openRequest, startedAt, latestFrame, newlyStarted, startedRequest}

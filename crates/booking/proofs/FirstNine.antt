@@ -12,14 +12,14 @@ use Rattle.blheli_telemetry.proofs.RoundTrip.{written-read}
 use Rattle.esc_lanes.specs.declared.request.EscActuatorRequest.{EscActuatorRequest}
 use Rattle.esc_lanes.specs.declared.request.EscTelemetryUpdate.{EscTelemetryUpdate}
 use Rattle.esc_feedback.specs.declared.answer.EscManagerTimeout.the-variants as timeout
-use Rattle.esc_records.specs.Answer.{sampleBytes, deliveredBytes, idleBytes, ackBytes, wireBytes, bodyBytes, answerBytes}
+use Rattle.esc_answers.specs.Answer.{sampleBytes, deliveredBytes, idleBytes, ackBytes, wireBytes, bodyBytes, answerBytes}
 use Rattle.esc_records.specs.declared.record.Record.{Record}
 use Rattle.esc_records.specs.declared.record.Record.the-variants as kind
-use Rattle.esc_records.specs.declared.answer.IdleAnswer.{IdleAnswer}
-use Rattle.esc_records.specs.declared.answer.AckAnswer.the-variants as ack
-use Rattle.esc_records.specs.declared.answer.WireAnswer.the-variants as wireAnswer
-use Rattle.esc_records.specs.declared.answer.Answer.{Answer}
-use Rattle.esc_records.specs.declared.answer.Answer.the-variants as answer
+use Rattle.esc_answers.specs.declared.answer.IdleAnswer.{IdleAnswer}
+use Rattle.esc_answers.specs.declared.answer.AckAnswer.the-variants as ack
+use Rattle.esc_answers.specs.declared.answer.WireAnswer.the-variants as wireAnswer
+use Rattle.esc_answers.specs.declared.answer.Answer.{Answer}
+use Rattle.esc_answers.specs.declared.answer.Answer.the-variants as answer
 use Rattle.base.specs.Maybe.{is, onlyIf}
 use Rattle.booking.specs.History.{Timed, Past, seen, saidBy, updateIn}
 use Rattle.booking.specs.Wire.{Frame, wire, frameAt, timed}

@@ -23,7 +23,7 @@ use Rattle.esc_feedback.specs.Recovery.{tryRecover}
 use Rattle.esc_books.specs.Figures.{withSample}
 use Rattle.esc_books.specs.Books.{bookedIn}
 use Rattle.esc_records.specs.Record.{recordOf, readRecord}
-use Rattle.esc_records.specs.Answer.{
+use Rattle.esc_answers.specs.Answer.{
   requestBytes,
   sampleBytes,
   deliveredBytes,

@@ -26,7 +26,7 @@ use Rattle.esc_idle.specs.declared.idle_verdict.Terminal.{Terminal}
 use Rattle.esc_idle.specs.declared.idle_verdict.Terminal.the-variants as terminal
 use Rattle.esc_idle.specs.declared.idle.EscIdleQualification.{EscIdleQualification}
 use Rattle.esc_idle.specs.declared.idle.EscIdleJudged.{EscIdleJudged}
-use Rattle.esc_records.specs.declared.answer.IdleAnswer.the-variants.{NoCheck, Status}
+use Rattle.esc_answers.specs.declared.answer.IdleAnswer.the-variants.{NoCheck, Status}
 use Rattle.base.specs.Maybe.{earliest}
 use Rattle.booking.specs.History.{Check, Seen, Past}
 use Rattle.booking.specs.IdleRule.{

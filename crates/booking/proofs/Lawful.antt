@@ -9,11 +9,11 @@ use lib.ListN.{length}
 use Rattle.base.specs.Choice.{pick}
 use Rattle.base.specs.Reply.{Reply, accepted, refused}
 use Rattle.esc_records.specs.Record.{readRecord}
-use Rattle.esc_records.specs.Answer.{answerBytes}
+use Rattle.esc_answers.specs.Answer.{answerBytes}
 use Rattle.esc_unit.specs.Unit.{opens}
 use Rattle.esc_records.specs.declared.record.Record.{Record}
 use Rattle.esc_records.specs.declared.record.Record.the-variants as kind
-use Rattle.esc_records.specs.declared.answer.Answer.{Answer}
+use Rattle.esc_answers.specs.declared.answer.Answer.{Answer}
 use Rattle.booking.specs.History.{Opening, seen, Past, Since, then, sinceEvent, since, Call, History}
 use Rattle.booking.specs.Rule.{answerTo, replyTo, withRoom, replyOn, ruleFor, traceOf}
 use Rattle.booking.specs.Run.{run}

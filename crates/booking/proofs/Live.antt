@@ -15,7 +15,7 @@ use Rattle.esc_lanes.specs.Output.{laneOf}
 use Rattle.esc_lanes.specs.declared.request.EscTelemetryUpdate.{EscTelemetryUpdate}
 use Rattle.esc_feedback.specs.declared.stats.EscManagerStats.{EscManagerStats}
 use Rattle.esc_records.specs.Record.{recordOf, readRecord}
-use Rattle.esc_records.specs.Answer.{
+use Rattle.esc_answers.specs.Answer.{
   requestBytes,
   sampleBytes,
   deliveredBytes,
@@ -29,7 +29,7 @@ use Rattle.esc_records.specs.Answer.{
   answerBytes,
   replyBytes,
 }
-use Rattle.esc_records.specs.declared.answer.Answer.{Answer}
+use Rattle.esc_answers.specs.declared.answer.Answer.{Answer}
 use Rattle.base.specs.Maybe.{is}
 use Rattle.booking.specs.History.{Past, History, saidBy, updateIn, since}
 use Rattle.booking.specs.Wire.{wire, latest, frameAt}

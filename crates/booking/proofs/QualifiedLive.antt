@@ -14,10 +14,10 @@ use Rattle.esc_lanes.specs.declared.output.Lane.the-variants.{Output1, Output2,
 use Rattle.esc_idle.specs.declared.idle_verdict.EscIdleQualificationFailure.the-variants.{InvalidConfig, Overspeed, Timeout}
 use Rattle.esc_idle.specs.declared.idle_verdict.EscIdleQualificationStatus.the-variants.{Pending, Qualified, Failed}
 use Rattle.esc_records.specs.Record.{recordOf, readRecord}
-use Rattle.esc_records.specs.Answer.{requestBytes, sampleBytes, deliveredBytes, failureBytes, idleBytes, ackBytes, wireBytes, bodyBytes, answerBytes}
-use Rattle.esc_records.specs.declared.answer.Answer.{Answer}
-use Rattle.esc_records.specs.declared.answer.IdleAnswer.{IdleAnswer}
-use Rattle.esc_records.specs.declared.answer.IdleAnswer.the-variants.{NoCheck, Status}
+use Rattle.esc_answers.specs.Answer.{requestBytes, sampleBytes, deliveredBytes, failureBytes, idleBytes, ackBytes, wireBytes, bodyBytes, answerBytes}
+use Rattle.esc_answers.specs.declared.answer.Answer.{Answer}
+use Rattle.esc_answers.specs.declared.answer.IdleAnswer.{IdleAnswer}
+use Rattle.esc_answers.specs.declared.answer.IdleAnswer.the-variants.{NoCheck, Status}
 use Rattle.booking.specs.History.{History, saidBy, Past, Since, since}
 use Rattle.booking.specs.Wire.{wire, latest, frameAt}
 use Rattle.booking.specs.Booking.{openRequest, startedAt, latestFrame, newlyStarted, startedRequest}

@@ -6,9 +6,9 @@ use Rattle.base.specs.Reply.{Reply, accepted, refused}
 use Rattle.esc_records.specs.Record.{readRecord}
 use Rattle.esc_records.specs.declared.record.Record.{Record}
 use Rattle.esc_records.specs.declared.record.Record.the-variants as kind
-use Rattle.esc_records.specs.declared.answer.UnitReport.{UnitReport}
-use Rattle.esc_records.specs.declared.answer.Answer.{Answer}
-use Rattle.esc_records.specs.declared.answer.Answer.the-variants as answer
+use Rattle.esc_answers.specs.declared.answer.UnitReport.{UnitReport}
+use Rattle.esc_answers.specs.declared.answer.Answer.{Answer}
+use Rattle.esc_answers.specs.declared.answer.Answer.the-variants as answer
 use Rattle.booking.specs.History.{Opening, Past, Since, since}
 use Rattle.booking.specs.Counts.{reportFor}
 use Rattle.booking.specs.Rule.{answerTo, replyTo}

@@ -5,7 +5,7 @@ use Prim.Native.Nat.{ℕ}
 use Rattle.base.specs.BigEndian.{numberAt, bytesOf}
 use Rattle.base.specs.Due.{due}
 use Rattle.esc_records.specs.Record.{recordOf, readRecord}
-use Rattle.esc_records.specs.Answer.{requestBytes, nextBytes, timeoutBytes, bodyBytes, answerBytes, replyBytes}
+use Rattle.esc_answers.specs.Answer.{requestBytes, nextBytes, timeoutBytes, bodyBytes, answerBytes, replyBytes}
 use Rattle.booking.specs.History.{Call, Event, since}
 use Rattle.booking.specs.Wire.{wire, latest, frameAt}
 use Rattle.booking.specs.Booking.{openRequest, startedAt}

@@ -12,7 +12,7 @@ use Rattle.esc_lanes.specs.declared.output.Lane.{Lane}
 use Rattle.esc_lanes.specs.declared.output.Lane.the-variants.{Output1, Output2, Output3}
 use Rattle.esc_lanes.specs.declared.request.EscTelemetryUpdate.{EscTelemetryUpdate}
 use Rattle.esc_records.specs.Record.{recordOf, readRecord}
-use Rattle.esc_records.specs.Answer.{
+use Rattle.esc_answers.specs.Answer.{
   requestBytes,
   sampleBytes,
   deliveredBytes,

@@ -11,8 +11,8 @@ use Rattle.esc_lanes.specs.declared.output.Lane.{Lane}
 use Rattle.esc_lanes.specs.declared.output.EscOutput.{EscOutput}
 use Rattle.esc_lanes.specs.declared.request.EscTelemetryUpdate.{EscTelemetryUpdate}
 use Rattle.esc_records.specs.declared.record.Record.the-variants as kind
-use Rattle.esc_records.specs.declared.answer.Answer.{Answer}
-use Rattle.esc_records.specs.declared.answer.Answer.the-variants as answer
+use Rattle.esc_answers.specs.declared.answer.Answer.{Answer}
+use Rattle.esc_answers.specs.declared.answer.Answer.the-variants as answer
 use Rattle.booking.specs.History.{Seen, Past, Since, since}
 use Rattle.booking.specs.Samples.{stored, deliveredOn}
 use Rattle.booking.specs.Rule.{storedAnswerOf, replyTo}

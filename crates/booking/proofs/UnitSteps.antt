@@ -18,11 +18,11 @@ use Rattle.esc_books.specs.Books.{noBooks, bookedIn, idleStatus}
 use Rattle.esc_unit.specs.Unit.{unitOf, stepped, ackedOn, wireStepped, recoveredOn, reportOf, stepOf, opens}
 use Rattle.esc_records.specs.declared.record.Record.{Record}
 use Rattle.esc_records.specs.declared.record.Record.the-variants as kind
-use Rattle.esc_records.specs.declared.answer.IdleAnswer.{IdleAnswer}
-use Rattle.esc_records.specs.declared.answer.AckAnswer.the-variants as ack
-use Rattle.esc_records.specs.declared.answer.WireAnswer.the-variants as wireAnswer
-use Rattle.esc_records.specs.declared.answer.Answer.{Answer}
-use Rattle.esc_records.specs.declared.answer.Answer.the-variants as answer
+use Rattle.esc_answers.specs.declared.answer.IdleAnswer.{IdleAnswer}
+use Rattle.esc_answers.specs.declared.answer.AckAnswer.the-variants as ack
+use Rattle.esc_answers.specs.declared.answer.WireAnswer.the-variants as wireAnswer
+use Rattle.esc_answers.specs.declared.answer.Answer.{Answer}
+use Rattle.esc_answers.specs.declared.answer.Answer.the-variants as answer
 use Rattle.esc_books.specs.declared.books.Books.{Books}
 use Rattle.esc_unit.specs.declared.unit.Unit.{Unit}
 use Rattle.esc_unit.specs.declared.kinds.Stepped.{Stepped}

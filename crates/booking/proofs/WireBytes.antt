@@ -16,7 +16,7 @@ use Rattle.esc_records.specs.Record.{knownKind, widthOf, laneFits, flagFits, re
 use Rattle.esc_unit.specs.Unit.{callOf, neverOpened}
 use Rattle.esc_records.specs.declared.record.Record.{Record}
 use Rattle.esc_records.specs.declared.record.Record.the-variants as kind
-use Rattle.esc_records.specs.declared.answer.Answer.{Answer}
+use Rattle.esc_answers.specs.declared.answer.Answer.{Answer}
 use Rattle.esc_unit.specs.declared.unit.Unit.{Unit as TheUnit}
 use Rattle.base.specs.Maybe.{is, orElse}
 use Rattle.booking.specs.History.{Call, History, Opening, Byte, Seen, seen, Past, Since, then, sinceEvent, since}

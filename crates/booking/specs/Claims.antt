@@ -16,9 +16,9 @@ use Rattle.esc_records.specs.Record.{readRecord}
 use Rattle.esc_unit.specs.Unit.{callOf, outputAfter}
 use Rattle.esc_records.specs.declared.record.Record.{Record}
 use Rattle.esc_records.specs.declared.record.Record.the-variants as kind
-use Rattle.esc_records.specs.declared.answer.UnitReport.{UnitReport}
-use Rattle.esc_records.specs.declared.answer.Answer.{Answer}
-use Rattle.esc_records.specs.declared.answer.Answer.the-variants as answer
+use Rattle.esc_answers.specs.declared.answer.UnitReport.{UnitReport}
+use Rattle.esc_answers.specs.declared.answer.Answer.{Answer}
+use Rattle.esc_answers.specs.declared.answer.Answer.the-variants as answer
 use Rattle.esc_unit.specs.declared.unit.Unit.{Unit}
 use Rattle.base.specs.Maybe.{is}
 use Rattle.booking.specs.History.{Past, Since, since, seen, Call}

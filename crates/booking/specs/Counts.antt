@@ -7,7 +7,7 @@ use lib.Dec.{eqb}
 use Rattle.base.specs.Choice.{pick}
 use Rattle.esc_feedback.specs.declared.answer.EscManagerTimeout.{EscManagerTimeout}
 use Rattle.esc_feedback.specs.declared.answer.EscManagerTimeout.the-variants.{None, ActuatorAck, TelemetryResponse}
-use Rattle.esc_records.specs.declared.answer.UnitReport.{UnitReport}
+use Rattle.esc_answers.specs.declared.answer.UnitReport.{UnitReport}
 use Rattle.base.specs.Maybe.{is}
 use Rattle.booking.specs.History.{Seen, Past}
 use Rattle.booking.specs.Wire.{wire, frameIn, wrongIn}

@@ -12,11 +12,11 @@ use Rattle.blheli_telemetry.specs.Crc.{crcOf}
 use Rattle.esc_lanes.specs.Output.{laneOf}
 use Rattle.esc_lanes.specs.declared.request.EscActuatorRequest.{EscActuatorRequest}
 use Rattle.esc_records.specs.Record.{readRecord}
-use Rattle.esc_records.specs.Answer.{idleBytes, answerBytes}
+use Rattle.esc_answers.specs.Answer.{idleBytes, answerBytes}
 use Rattle.esc_records.specs.declared.record.Record.{Record}
 use Rattle.esc_records.specs.declared.record.Record.the-variants as kind
-use Rattle.esc_records.specs.declared.answer.IdleAnswer.{IdleAnswer}
-use Rattle.esc_records.specs.declared.answer.Answer.{Answer}
+use Rattle.esc_answers.specs.declared.answer.IdleAnswer.{IdleAnswer}
+use Rattle.esc_answers.specs.declared.answer.Answer.{Answer}
 use Rattle.base.specs.Maybe.{is}
 use Rattle.booking.specs.History.{Call, Timed, Past, seen}
 use Rattle.booking.specs.Wire.{Frame, wire, frameAt, timed}

@@ -14,12 +14,12 @@ use Rattle.esc_feedback.specs.declared.answer.EscManagerTimeout.the-variants as
 use Rattle.esc_records.specs.Record.{readRecord}
 use Rattle.esc_records.specs.declared.record.Record.{Record}
 use Rattle.esc_records.specs.declared.record.Record.the-variants as kind
-use Rattle.esc_records.specs.declared.answer.IdleAnswer.{IdleAnswer}
-use Rattle.esc_records.specs.declared.answer.Delivered.{Delivered}
-use Rattle.esc_records.specs.declared.answer.AckAnswer.the-variants as ack
-use Rattle.esc_records.specs.declared.answer.WireAnswer.the-variants as wire
-use Rattle.esc_records.specs.declared.answer.Answer.{Answer}
-use Rattle.esc_records.specs.declared.answer.Answer.the-variants as answer
+use Rattle.esc_answers.specs.declared.answer.IdleAnswer.{IdleAnswer}
+use Rattle.esc_answers.specs.declared.answer.Delivered.{Delivered}
+use Rattle.esc_answers.specs.declared.answer.AckAnswer.the-variants as ack
+use Rattle.esc_answers.specs.declared.answer.WireAnswer.the-variants as wire
+use Rattle.esc_answers.specs.declared.answer.Answer.{Answer}
+use Rattle.esc_answers.specs.declared.answer.Answer.the-variants as answer
 use Rattle.base.specs.Maybe.{onlyIf}
 
 -- a call: a record's bytes, and how much output is lent for its answer

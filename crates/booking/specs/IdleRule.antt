@@ -15,8 +15,8 @@ use Rattle.esc_idle.specs.declared.idle_config.EscIdleQualificationConfig.{EscI
 use Rattle.esc_idle.specs.declared.idle_verdict.EscIdleQualificationFailure.the-variants.{InvalidConfig, Overspeed, Timeout}
 use Rattle.esc_idle.specs.declared.idle_verdict.EscIdleQualificationStatus.{EscIdleQualificationStatus}
 use Rattle.esc_idle.specs.declared.idle_verdict.EscIdleQualificationStatus.the-variants.{Pending, Qualified, Failed}
-use Rattle.esc_records.specs.declared.answer.IdleAnswer.{IdleAnswer}
-use Rattle.esc_records.specs.declared.answer.IdleAnswer.the-variants.{NoCheck, Status}
+use Rattle.esc_answers.specs.declared.answer.IdleAnswer.{IdleAnswer}
+use Rattle.esc_answers.specs.declared.answer.IdleAnswer.the-variants.{NoCheck, Status}
 use Rattle.base.specs.Maybe.{is, orElse, earliest, onlyIf}
 use Rattle.booking.specs.History.{Check, Past}
 

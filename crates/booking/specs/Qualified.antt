@@ -15,8 +15,8 @@ use Rattle.esc_idle.specs.declared.idle_verdict.EscIdleQualificationStatus.the-
 use Rattle.esc_records.specs.Record.{readRecord}
 use Rattle.esc_unit.specs.Unit.{callOf}
 use Rattle.esc_records.specs.declared.record.Record.{Record}
-use Rattle.esc_records.specs.declared.answer.Answer.{Answer}
-use Rattle.esc_records.specs.declared.answer.IdleAnswer.the-variants.{Status}
+use Rattle.esc_answers.specs.declared.answer.Answer.{Answer}
+use Rattle.esc_answers.specs.declared.answer.IdleAnswer.the-variants.{Status}
 use Rattle.base.specs.Maybe.{is, onlyIf}
 use Rattle.booking.specs.History.{Call, Check, Seen, seen, saidBy, Past, Since, since}
 use Rattle.booking.specs.IdleRule.{check, verdict, erpm, expired, pastGrace}

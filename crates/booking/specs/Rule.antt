@@ -13,18 +13,18 @@ use Rattle.esc_feedback.specs.declared.answer.NextRequest.the-variants as next
 use Rattle.esc_feedback.specs.declared.answer.BackAfterRetries.{BackAfterRetries}
 use Rattle.esc_feedback.specs.declared.answer.BackAfterRetries.the-variants as back
 use Rattle.esc_records.specs.Record.{readRecord}
-use Rattle.esc_records.specs.Answer.{answerBytes}
+use Rattle.esc_answers.specs.Answer.{answerBytes}
 use Rattle.esc_records.specs.declared.record.Record.{Record}
 use Rattle.esc_records.specs.declared.record.Record.the-variants as kind
-use Rattle.esc_records.specs.declared.answer.IdleAnswer.{IdleAnswer}
-use Rattle.esc_records.specs.declared.answer.AckAnswer.{AckAnswer}
-use Rattle.esc_records.specs.declared.answer.AckAnswer.the-variants as ack
-use Rattle.esc_records.specs.declared.answer.WireAnswer.{WireAnswer}
-use Rattle.esc_records.specs.declared.answer.WireAnswer.the-variants as wireAnswer
-use Rattle.esc_records.specs.declared.answer.StoredAnswer.{StoredAnswer}
-use Rattle.esc_records.specs.declared.answer.StoredAnswer.the-variants as storedAnswer
-use Rattle.esc_records.specs.declared.answer.Answer.{Answer}
-use Rattle.esc_records.specs.declared.answer.Answer.the-variants as answer
+use Rattle.esc_answers.specs.declared.answer.IdleAnswer.{IdleAnswer}
+use Rattle.esc_answers.specs.declared.answer.AckAnswer.{AckAnswer}
+use Rattle.esc_answers.specs.declared.answer.AckAnswer.the-variants as ack
+use Rattle.esc_answers.specs.declared.answer.WireAnswer.{WireAnswer}
+use Rattle.esc_answers.specs.declared.answer.WireAnswer.the-variants as wireAnswer
+use Rattle.esc_answers.specs.declared.answer.StoredAnswer.{StoredAnswer}
+use Rattle.esc_answers.specs.declared.answer.StoredAnswer.the-variants as storedAnswer
+use Rattle.esc_answers.specs.declared.answer.Answer.{Answer}
+use Rattle.esc_answers.specs.declared.answer.Answer.the-variants as answer
 use Rattle.booking.specs.History.{Opening, Past, Since, since, Call, History}
 use Rattle.booking.specs.Wire.{Frame, wire, frameAt, timed}
 use Rattle.booking.specs.Booking.{booked, bookedTo, newlyStarted, startedRequest, latestFrame}

@@ -9,7 +9,7 @@ use Rattle.base.specs.Choice.{pick}
 use Rattle.esc_lanes.specs.Output.{laneOf, laneNumber}
 use Rattle.esc_lanes.specs.declared.output.Lane.{Lane}
 use Rattle.esc_lanes.specs.declared.request.EscTelemetryUpdate.{EscTelemetryUpdate}
-use Rattle.esc_records.specs.declared.answer.Figure.{Figure}
+use Rattle.esc_answers.specs.declared.answer.Figure.{Figure}
 use Rattle.base.specs.Maybe.{onlyIf}
 use Rattle.booking.specs.History.{Past}
 

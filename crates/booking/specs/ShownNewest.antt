@@ -10,8 +10,8 @@ use Rattle.esc_lanes.specs.declared.output.EscOutput.{EscOutput}
 use Rattle.esc_lanes.specs.declared.request.EscTelemetryUpdate.{EscTelemetryUpdate}
 use Rattle.esc_records.specs.Record.{readRecord}
 use Rattle.esc_records.specs.declared.record.Record.the-variants as kind
-use Rattle.esc_records.specs.declared.answer.Answer.{Answer}
-use Rattle.esc_records.specs.declared.answer.Answer.the-variants as answer
+use Rattle.esc_answers.specs.declared.answer.Answer.{Answer}
+use Rattle.esc_answers.specs.declared.answer.Answer.the-variants as answer
 use Rattle.booking.specs.History.{Call, Past}
 use Rattle.booking.specs.Samples.{deliveredOn}
 use Rattle.booking.specs.Rule.{storedAnswerOf}

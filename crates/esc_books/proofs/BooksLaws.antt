@@ -9,7 +9,7 @@ use Rattle.esc_lanes.specs.declared.request.EscTelemetryUpdate.{EscTelemetryUpd
 use Rattle.esc_idle.specs.declared.idle.EscIdleJudged.{EscIdleJudged}
 use Rattle.esc_books.specs.Figures.{figuresWith}
 use Rattle.esc_books.specs.Books.{booksOf, booksJudged, ifChecking, bookedIn, idleStatus}
-use Rattle.esc_records.specs.declared.answer.IdleAnswer.the-variants.{NoCheck}
+use Rattle.esc_answers.specs.declared.answer.IdleAnswer.the-variants.{NoCheck}
 use Rattle.esc_books.specs.declared.books.Books.{Books}
 use Rattle.esc_books.specs.declared.books.Booked.{Booked}
 

@@ -5,7 +5,7 @@ use borrow.Author.Tests.{eq-eqb, ne-eqb}
 use Rattle.base.specs.Saturated.{saturated}
 use Rattle.blheli_telemetry.specs.declared.frame.EscTelemetry.{EscTelemetry}
 use Rattle.esc_books.specs.Figures.{withSample}
-use Rattle.esc_records.specs.declared.answer.Figure.{Figure}
+use Rattle.esc_answers.specs.declared.answer.Figure.{Figure}
 
 module _ (f : Figure) (t : EscTelemetry) where
   pub first-sample : f .samples ≡ 0

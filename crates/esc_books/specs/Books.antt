@@ -14,9 +14,9 @@ use Rattle.esc_idle.specs.declared.idle.EscIdleQualification.{EscIdleQualificat
 use Rattle.esc_idle.specs.declared.idle.EscIdleJudged.{EscIdleJudged}
 use Rattle.esc_books.specs.Figures.{noFigures, figuresWith}
 use Rattle.esc_books.specs.declared.figures.Figures.{Figures}
-use Rattle.esc_records.specs.declared.answer.IdleAnswer.the-variants.{NoCheck, Status}
-use Rattle.esc_records.specs.declared.answer.StoredAnswer.{StoredAnswer}
-use Rattle.esc_records.specs.declared.answer.StoredAnswer.the-variants as stored
+use Rattle.esc_answers.specs.declared.answer.IdleAnswer.the-variants.{NoCheck, Status}
+use Rattle.esc_answers.specs.declared.answer.StoredAnswer.{StoredAnswer}
+use Rattle.esc_answers.specs.declared.answer.StoredAnswer.the-variants as stored
 use Rattle.esc_books.specs.declared.books.Books.{Books}
 use Rattle.esc_books.specs.declared.books.Booked.{Booked}
 

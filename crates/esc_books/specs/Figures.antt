@@ -8,7 +8,7 @@ use Rattle.blheli_telemetry.specs.declared.frame.EscTelemetry.{EscTelemetry}
 use Rattle.esc_lanes.specs.Output.{laneOf}
 use Rattle.esc_lanes.specs.declared.output.EscOutput.{EscOutput}
 use Rattle.esc_lanes.specs.declared.request.EscTelemetryUpdate.{EscTelemetryUpdate}
-use Rattle.esc_records.specs.declared.answer.Figure.{Figure}
+use Rattle.esc_answers.specs.declared.answer.Figure.{Figure}
 use Rattle.esc_books.specs.declared.figures.Figures.{Figures}
 
 abbrev pub noFigure : Figure

@@ -4,6 +4,9 @@ ghost use mathlib.Core.Path.{_≡_};
 ghost use Rattle.esc_books.specs.Figures.{figureAt};
 ghost use Rattle.esc_books.specs.Books.{noBooks, checkedBy, samplesDropped, booksJudged, bookedIn, idleStatus, storedAt};
 use crate::figures::Figures;
+use esc_answers::Figure;
+use esc_answers::IdleAnswer;
+use esc_answers::StoredAnswer;
 use esc_idle::EscIdleJudged;
 use esc_idle::EscIdleQualification;
 use esc_idle::EscIdleQualificationConfig;
@@ -11,9 +14,6 @@ use esc_lanes::EscOutput;
 use esc_lanes::EscSamples;
 use esc_lanes::EscTelemetryUpdate;
 use esc_lanes::StoredObservation;
-use esc_records::Figure;
-use esc_records::IdleAnswer;
-use esc_records::StoredAnswer;
 
 pub struct Books {
     samples: EscSamples,

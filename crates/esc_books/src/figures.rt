@@ -5,9 +5,9 @@ ghost use Prim.Native.Nat.{min, max};
 ghost use Rattle.esc_books.specs.Figures.{noFigure, withSample, noFigures, figureAt, figuresWith};
 use base::saturating_inc;
 use blheli_telemetry::EscTelemetry;
+use esc_answers::Figure;
 use esc_lanes::EscOutput;
 use esc_lanes::EscTelemetryUpdate;
-use esc_records::Figure;
 
 pub struct Figures {
     lanes: [Figure; 4],

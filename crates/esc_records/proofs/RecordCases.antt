@@ -11,7 +11,7 @@ use Rattle.esc_lanes.specs.declared.output.EscOutput.{EscOutput}
 use Rattle.esc_lanes.specs.declared.request.EscActuatorRequest.{EscActuatorRequest}
 use Rattle.esc_records.specs.Record.{recordOf, readRecord}
 use Rattle.esc_records.specs.declared.record.Record.the-variants as kind
-use Rattle.esc_records.proofs.Rising.{rising}
+use Rattle.base.proofs.Rising.{rising}
 
 abbrev on : Lane → EscOutput
 on l = record { 0 = l }

@@ -1,28 +1,8 @@
-// Records and answers: bytes to typed records, typed answers to bytes. No public function has a `requires`.
-mod answer;
+// Records: bytes to typed records.
 mod fields;
-mod put;
-mod put_parts;
 mod reader;
 mod record;
-mod text;
-mod write;
 
-pub use answer::AckAnswer;
-pub use answer::Answer;
-pub use answer::Delivered;
-pub use answer::Figure;
-pub use answer::IdleAnswer;
-pub use answer::StoredAnswer;
-pub use answer::UnitReport;
-pub use answer::WireAnswer;
 pub use record::Record;
 pub use record::RecordRead;
 pub use record::read_record;
-pub use text::AnswerText;
-pub use text::LONGEST_ANSWER;
-pub use text::answer_text;
-pub use text::delivered_text;
-pub use text::next_text;
-pub use text::timeout_text;
-pub use write::write_answer;

@@ -8,12 +8,12 @@ use lib.ListN.{length}
 use Rattle.base.specs.Choice.{pick}
 use Rattle.base.specs.BigEndian.{overwrite}
 use Rattle.base.specs.Reply.{Reply, accepted, refused, isAccepted}
-use Rattle.esc_records.specs.Answer.{answerBytes}
+use Rattle.esc_answers.specs.Answer.{answerBytes}
 use Rattle.esc_unit.specs.Unit.{Replied, refusing, accepting, outputAfter, lengthOf}
 use Rattle.esc_unit.specs.Admission.{roomed}
 use Rattle.base.specs.Handed.{handedReply, handedOutput}
 use Rattle.esc_unit.specs.Replies.{callReply}
-use Rattle.esc_records.specs.declared.answer.Answer.{Answer}
+use Rattle.esc_answers.specs.declared.answer.Answer.{Answer}
 use Rattle.esc_unit.specs.declared.unit.Unit.{Unit}
 use Rattle.esc_unit.specs.declared.kinds.Stepped.{Stepped}
 use Rattle.esc_unit.specs.declared.unit.call.CallReply.the-variants as call

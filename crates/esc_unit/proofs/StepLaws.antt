@@ -17,7 +17,7 @@ use Rattle.esc_feedback.specs.declared.manager.EscManager.{EscManager}
 use Rattle.esc_books.specs.declared.books.Books.{Books}
 use Rattle.esc_records.specs.declared.record.Record.{Record}
 use Rattle.esc_records.specs.declared.record.Record.the-variants as kind
-use Rattle.esc_records.specs.declared.answer.Answer.the-variants as answer
+use Rattle.esc_answers.specs.declared.answer.Answer.the-variants as answer
 use Rattle.esc_unit.specs.Unit.{stepped, ackedOn, wireStepped, recoveredOn, stepOf}
 
 module _ (m : EscManager) (b : Books) (now : ℕ) where

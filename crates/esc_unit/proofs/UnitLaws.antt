@@ -8,10 +8,10 @@ use lib.ListN.{length}
 use Rattle.base.specs.Choice.{pick}
 use Rattle.base.specs.Reply.{Reply, accepted, refused, isAccepted}
 use Rattle.esc_records.specs.Record.{readRecord}
-use Rattle.esc_records.specs.Answer.{answerBytes}
+use Rattle.esc_answers.specs.Answer.{answerBytes}
 use Rattle.esc_unit.specs.Unit.{Replied, stepOf, opens, refusing, accepting, enter, ifRoom, callOn, callOf, outputAfter}
 use Rattle.esc_records.specs.declared.record.Record.{Record}
-use Rattle.esc_records.specs.declared.answer.Answer.{Answer}
+use Rattle.esc_answers.specs.declared.answer.Answer.{Answer}
 use Rattle.esc_unit.specs.Admission.{admittedOn, admittedOf, onAdmitted}
 use Rattle.esc_unit.specs.declared.unit.Unit.{Unit}
 use Rattle.esc_unit.specs.declared.kinds.Stepped.{Stepped}

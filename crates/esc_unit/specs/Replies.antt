@@ -2,7 +2,7 @@
 use Prim.Native.Nat.{ℕ}
 use Rattle.base.specs.Reply.{Reply, accepted, refused}
 use Rattle.esc_unit.specs.Unit.{Replied}
-use Rattle.esc_records.specs.declared.answer.Answer.{Answer}
+use Rattle.esc_answers.specs.declared.answer.Answer.{Answer}
 use Rattle.esc_unit.specs.declared.unit.StepReply.{StepReply}
 use Rattle.esc_unit.specs.declared.unit.StepReply.the-variants as step
 use Rattle.esc_unit.specs.declared.unit.UnitStepped.{UnitStepped}

@@ -21,16 +21,16 @@ use Rattle.esc_feedback.specs.declared.answer.WireUpdate.{WireUpdate}
 use Rattle.esc_feedback.specs.declared.answer.WireUpdate.the-variants as update
 use Rattle.esc_feedback.specs.declared.manager.EscManager.{EscManager}
 use Rattle.esc_records.specs.Record.{readRecord}
-use Rattle.esc_records.specs.Answer.{answerBytes}
+use Rattle.esc_answers.specs.Answer.{answerBytes}
 use Rattle.esc_books.specs.Figures.{figureAt}
 use Rattle.esc_books.specs.Books.{noBooks, checkedBy, samplesDropped, bookedIn, idleStatus, storedAt}
 use Rattle.esc_records.specs.declared.record.Record.{Record}
 use Rattle.esc_records.specs.declared.record.Record.the-variants as kind
-use Rattle.esc_records.specs.declared.answer.AckAnswer.the-variants as ack
-use Rattle.esc_records.specs.declared.answer.WireAnswer.the-variants as wire
-use Rattle.esc_records.specs.declared.answer.UnitReport.{UnitReport}
-use Rattle.esc_records.specs.declared.answer.Answer.{Answer}
-use Rattle.esc_records.specs.declared.answer.Answer.the-variants as answer
+use Rattle.esc_answers.specs.declared.answer.AckAnswer.the-variants as ack
+use Rattle.esc_answers.specs.declared.answer.WireAnswer.the-variants as wire
+use Rattle.esc_answers.specs.declared.answer.UnitReport.{UnitReport}
+use Rattle.esc_answers.specs.declared.answer.Answer.{Answer}
+use Rattle.esc_answers.specs.declared.answer.Answer.the-variants as answer
 use Rattle.esc_books.specs.declared.books.Books.{Books}
 use Rattle.esc_books.specs.declared.books.Booked.{Booked}
 use Rattle.esc_unit.specs.declared.unit.Unit.{Unit}

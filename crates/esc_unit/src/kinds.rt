@@ -7,9 +7,9 @@ mod wire;
 ghost use mathlib.Core.Path.{_≡_};
 ghost use Rattle.esc_unit.specs.Unit.{stepped, stepOf};
 use crate::unit::Unit;
+use esc_answers::Answer;
 use esc_books::Books;
 use esc_feedback::EscManager;
-use esc_records::Answer;
 use esc_records::Record;
 
 // An opened unit after a record, and its answer.

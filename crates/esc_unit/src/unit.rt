@@ -10,10 +10,10 @@ ghost use mathlib.Core.Bool.{_||_};
 ghost use Rattle.esc_unit.specs.Unit.{neverOpened, opens, enter};
 ghost use Rattle.esc_unit.specs.Replies.{stepReplied};
 use crate::kinds::step;
+use esc_answers::Answer;
 use esc_books::Books;
 use esc_feedback::EscManager;
 use esc_feedback::EscManagerConfig;
-use esc_records::Answer;
 use esc_records::Record;
 
 // Its parts are public, so that a loop over records can change in place what a record touches.

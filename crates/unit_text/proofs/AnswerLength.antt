@@ -6,13 +6,13 @@ use native.Mathlib.Omega.{arith}
 use borrow.Author.Tests.{le-leb}
 use lib.ListN.{length}
 use Rattle.base.specs.Reply.{Reply, accepted, refused}
-use Rattle.esc_records.specs.Answer.{answerBytes, replyBytes, longestAnswer}
+use Rattle.esc_answers.specs.Answer.{answerBytes, replyBytes, longestAnswer}
 use Rattle.esc_records.specs.Record.{readRecord}
 use Rattle.esc_unit.specs.Unit.{Replied, enter, ifRoom, callOn, callOf}
-use Rattle.esc_records.specs.declared.answer.Answer.{Answer}
+use Rattle.esc_answers.specs.declared.answer.Answer.{Answer}
 use Rattle.esc_records.specs.declared.record.Record.{Record}
 use Rattle.esc_unit.specs.declared.unit.Unit.{Unit}
-use Rattle.esc_records.proofs.AnswerLaws.{answer-at-most}
+use Rattle.esc_answers.proofs.AnswerLaws.{answer-at-most}
 
 pub reply-length : (r : Reply Answer) → length (replyBytes r) ≤ longestAnswer
 unfolding replyBytes

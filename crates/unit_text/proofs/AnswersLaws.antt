@@ -22,11 +22,11 @@ use Rattle.esc_feedback.specs.declared.answer.WireUpdate.the-variants as update
 use Rattle.esc_feedback.specs.declared.manager.wire.Received.{Received}
 use Rattle.esc_feedback.proofs.WireLaws.{pushed-collected}
 use Rattle.esc_books.specs.Books.{bookedIn}
-use Rattle.esc_records.specs.Answer.{flagByte, deliveredBytes, answerBytes, replyBytes, longestAnswer}
-use Rattle.esc_records.specs.declared.answer.Answer.the-variants as answer
+use Rattle.esc_answers.specs.Answer.{flagByte, deliveredBytes, answerBytes, replyBytes, longestAnswer}
+use Rattle.esc_answers.specs.declared.answer.Answer.the-variants as answer
 use Rattle.esc_records.specs.declared.record.Record.{Record}
 use Rattle.esc_records.specs.declared.record.Record.the-variants as kind
-use Rattle.esc_records.proofs.AnswerLaws.{answer-at-most, decided-bytes, rejected-bytes, accepted-bytes, ack-sample-bytes, no-wire-bytes, wire-sample-bytes}
+use Rattle.esc_answers.proofs.AnswerLaws.{answer-at-most, decided-bytes, rejected-bytes, accepted-bytes, ack-sample-bytes, no-wire-bytes, wire-sample-bytes}
 use Rattle.esc_unit.specs.Admission.{onAdmitted}
 use Rattle.esc_unit.specs.Unit.{Replied, unitOf, stepOf, refusing, accepting}
 use Rattle.esc_unit.specs.declared.kinds.Stepped.{Stepped}

@@ -12,7 +12,7 @@ use Rattle.base.proofs.BigEndianLaws.{overwrite-append}
 use Rattle.base.specs.Reply.{Reply}
 use Rattle.esc_records.specs.declared.record.Record.{Record}
 use Rattle.esc_unit.specs.Unit.{Replied}
-use Rattle.esc_records.specs.Answer.{replyBytes}
+use Rattle.esc_answers.specs.Answer.{replyBytes}
 use Rattle.esc_unit.specs.declared.unit.Unit.{Unit}
 use Rattle.hex_lines.specs.Line.{lineEnd, readLine, printedLine, longestRecord, mostHeld}
 use Rattle.unit_text.specs.Session.{answerOn, answerLine, unitAfter, lineText}

@@ -10,7 +10,7 @@ use lib.Dec.{eqb}
 use lib.ListN.{length, getD, take, drop}
 use lib.Seq.{take-suc, take-add}
 use Rattle.base.specs.Choice.{pick}
-use Rattle.esc_records.specs.Answer.{replyBytes}
+use Rattle.esc_answers.specs.Answer.{replyBytes}
 use Rattle.esc_unit.specs.declared.unit.Unit.{Unit}
 use Rattle.hex_lines.specs.Line.{lineEnd, mostHeld}
 use Rattle.unit_text.specs.Session.{answerLine, unitAfter, lineText}

@@ -7,7 +7,7 @@ use lib.ListN.{length}
 use Rattle.base.specs.BigEndian.{overwrite}
 use Rattle.base.specs.Reply.{Reply, accepted, refused}
 use Rattle.esc_unit.specs.Admission.{admittedOf}
-use Rattle.esc_records.specs.Answer.{replyBytes}
+use Rattle.esc_answers.specs.Answer.{replyBytes}
 use Rattle.esc_records.specs.declared.record.Record.{Record}
 use Rattle.esc_unit.specs.declared.unit.Unit.{Unit}
 use Rattle.hex_lines.specs.Line.{printedLine}

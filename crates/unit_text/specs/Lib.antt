@@ -1,7 +1,6 @@
--- Read in this order: a session, and the same by the rules alone; a session in pieces; then how the code goes: a line's answer, its record, a
--- wire byte's line. What a line is stands in hex_lines.
+-- Read in this order: a session; a session in pieces; then how the code goes: a line's answer, its record, a wire byte's line. What a line is
+-- stands in hex_lines, the session by the rules alone in session_rules.
 pub mod Session
-pub mod Traced
 pub mod Stream
 pub mod Streams
 pub mod Answering

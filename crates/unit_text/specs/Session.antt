@@ -6,7 +6,7 @@ use lib.ListN.{length}
 use Rattle.base.specs.Choice.{pick}
 use Rattle.base.specs.Reply.{Reply, accepted, refused}
 use Rattle.esc_unit.specs.Unit.{Replied, refusing, callOf, neverOpened}
-use Rattle.esc_records.specs.Answer.{replyBytes, longestAnswer}
+use Rattle.esc_answers.specs.Answer.{replyBytes, longestAnswer}
 use Rattle.esc_unit.specs.declared.unit.Unit.{Unit}
 use Rattle.hex_lines.specs.Line.{lineEnd, readLine, printedLine}
 

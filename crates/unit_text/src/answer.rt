@@ -2,11 +2,11 @@
 ghost use mathlib.Core.List.{[], _∷_};
 ghost use Prim.Native.Nat.{_+_, _≤_};
 ghost use lib.ListN.{length};
-ghost use Rattle.esc_records.specs.Answer.{flagByte, longestAnswer};
-ghost use Rattle.esc_records.specs.Text.{textOf};
+ghost use Rattle.esc_answers.specs.Answer.{flagByte, longestAnswer};
+ghost use Rattle.esc_answers.specs.Text.{textOf};
 ghost use Rattle.unit_text.specs.Answering.{PrintedAt};
 ghost use Rattle.unit_text.specs.Stream.{longestLine};
-use esc_records::AnswerText;
+use esc_answers::AnswerText;
 use hex_lines::line::print_line;
 
 pub(crate) fn print_text(text: AnswerText, out: &mut [u8], at: usize) -> usize

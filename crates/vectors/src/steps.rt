@@ -1,10 +1,10 @@
 // Unit::step: a record in, its answer out.
 use crate::print;
 use base::Handed;
-use esc_records::Answer;
+use esc_answers::Answer;
+use esc_answers::write_answer;
 use esc_records::RecordRead;
 use esc_records::read_record;
-use esc_records::write_answer;
 use esc_unit::StepReply;
 use esc_unit::Unit;
 

@@ -3,9 +3,9 @@ ghost use mathlib.Core.Path.{_≡_};
 ghost use Rattle.esc_unit.specs.Unit.{stepOf};
 use crate::kinds::Stepped;
 use crate::kinds::answered;
+use esc_answers::Answer;
 use esc_books::Books;
 use esc_feedback::EscManager;
-use esc_records::Answer;
 use esc_records::Record;
 
 // 07: a recovery drops the stored samples.

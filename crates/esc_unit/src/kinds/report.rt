@@ -3,12 +3,12 @@ ghost use mathlib.Core.Path.{_≡_};
 ghost use Rattle.esc_unit.specs.Unit.{stepOf};
 use crate::kinds::Stepped;
 use crate::kinds::answered;
+use esc_answers::Answer;
+use esc_answers::UnitReport;
 use esc_books::Books;
 use esc_feedback::EscManager;
 use esc_lanes::EscOutput;
-use esc_records::Answer;
 use esc_records::Record;
-use esc_records::UnitReport;
 
 // 0b: the check keeps its verdict.
 pub fn idle_status(manager: EscManager, books: Books, now_ms: u64) -> Stepped

@@ -3,14 +3,14 @@ ghost use mathlib.Core.Path.{_≡_};
 ghost use Rattle.esc_unit.specs.Unit.{stepOf};
 use crate::kinds::Stepped;
 use crate::kinds::answered;
+use esc_answers::AckAnswer;
+use esc_answers::Answer;
+use esc_answers::Delivered;
 use esc_books::Books;
 use esc_feedback::EscAckOutcome;
 use esc_feedback::EscManager;
 use esc_lanes::EscActuatorAck;
 use esc_lanes::EscActuatorRequest;
-use esc_records::AckAnswer;
-use esc_records::Answer;
-use esc_records::Delivered;
 use esc_records::Record;
 
 // 01

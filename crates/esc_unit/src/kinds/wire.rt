@@ -3,13 +3,13 @@ ghost use mathlib.Core.Path.{_≡_};
 ghost use Rattle.esc_unit.specs.Unit.{stepOf};
 use crate::kinds::Stepped;
 use crate::kinds::answered;
+use esc_answers::Answer;
+use esc_answers::Delivered;
+use esc_answers::WireAnswer;
 use esc_books::Books;
 use esc_feedback::EscManager;
 use esc_feedback::WireUpdate;
-use esc_records::Answer;
-use esc_records::Delivered;
 use esc_records::Record;
-use esc_records::WireAnswer;
 
 // 05: a delivered sample goes on to the books.
 pub fn push_wire_byte(manager: EscManager, books: Books, byte: u8, observed_at_ms: u64) -> Stepped

@@ -9,9 +9,9 @@ use crate::kinds::step;
 use crate::unit::Unit;
 use crate::unit::admit;
 use base::Handed;
+use esc_answers::write_answer;
 use esc_records::Record;
 use esc_records::RecordRead;
-use esc_records::write_answer;
 
 pub enum CallReply {
     // How many bytes the answer has.

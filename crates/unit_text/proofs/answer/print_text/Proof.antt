@@ -4,7 +4,7 @@ use mathlib.Core.Path.{_≡_, sym}
 use Prim.Native.Nat.{_≤_}
 use lib.ListN.{length, length-take}
 use lib.Seq.{length-take-le}
-use Rattle.esc_records.specs.Answer.{longestAnswer}
+use Rattle.esc_answers.specs.Answer.{longestAnswer}
 use borrow.Author.Needs.{needs}
 use Rattle.unit_text.proofs.answer.print_text.Statement.{statement}
 use Rattle.unit_text.proofs.answer.print_text.Tie as tie

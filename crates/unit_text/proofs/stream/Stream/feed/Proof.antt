@@ -9,7 +9,7 @@ use denote.Ref.{now}
 use lib.ListN.{length, take, drop}
 use Rattle.base.specs.Reply.{Reply, accepted, refused}
 use Rattle.esc_records.specs.declared.record.Record.{Record}
-use Rattle.esc_records.proofs.AnswerLaws.{answer-fits, delivered-fits}
+use Rattle.esc_answers.proofs.AnswerLaws.{answer-fits, delivered-fits}
 use Rattle.esc_unit.specs.declared.unit.Unit.{Unit}
 use Rattle.hex_lines.specs.Line.{readLine, longestRecord}
 use Rattle.hex_lines.specs.NextLine.{firstLine}

@@ -1,0 +1,24 @@
+-- The body of a 04 is put behind the 00.
+use borrow.Author.Needs.{needs}
+use native.Mathlib.Omega.{arith}
+use mathlib.Core.Path.{refl}
+use Rattle.esc_answers.specs.Answer.{bodyBytes, answerBytes}
+use Rattle.esc_answers.specs.declared.answer.Answer.the-variants as answer
+use Rattle.esc_answers.proofs.AnswerLaws.{body-at-most}
+use Rattle.esc_answers.proofs.TextLaws.{text-put}
+use Rattle.esc_answers.proofs.text.timeout_text.Statement.{statement}
+use Rattle.esc_answers.proofs.text.timeout_text.Tie as tie
+
+slice-aggregate-put-timeout : tie.Need-slice-aggregate-put-timeout
+slice-aggregate-put-timeout c = search needs
+
+put-timeout-requires : tie.Need-put-timeout-requires
+unfolding bodyBytes
+put-timeout-requires c κs = record { fits = omega (arith, body-at-most (answer.Timeout (c .before .args .timeout))) }
+
+returns : tie.Need-returns
+unfolding bodyBytes answerBytes
+returns c = text-put _ _ _ _ refl (c .before .put-timeout .ensures)
+
+pub timeout-text-spec : {M : Type 1} → statement M
+timeout-text-spec = tie.close (tie.spec slice-aggregate-put-timeout put-timeout-requires returns)
