@@ -15,6 +15,7 @@ from pathlib import Path
 sys.dont_write_bytecode = True
 sys.path.insert(0, str(Path(__file__).resolve().parent / "plain"))
 from bad import bad_files, edges, unfit, usage  # noqa: E402
+from conditions import conditions  # noqa: E402
 from digits import pairs, silent_bytes  # noqa: E402
 from drawing import drawn  # noqa: E402
 from table import table  # noqa: E402
@@ -61,6 +62,7 @@ def main():
     with tempfile.TemporaryDirectory() as made:
         bad_files(Path(made))
         edges(Path(made))
+        conditions(Path(made))
     print(f"plain: {len(SESSIONS)} sessions in words, {rows} readings as CSV and drawn, {tried} answers that do not fit")
 
 
