@@ -3,7 +3,7 @@
 
 What it must print is written by hand in tests/plain/*-plain.txt, from docs/RECORDS.md; wire bytes that bring no reading are
 left out there and made from their digits. The CSV and the picture are compared with the numbers of the digits. What
-docs/OPERATIONS.md shows is printed.
+docs/OPERATIONS.md shows is printed, and its commands find a broken condition.
 tests/plain/every-kind.txt has every kind, every form of answer and every number that refuses a line; its answers are the
 Rust reference's.
 """
