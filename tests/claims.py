@@ -18,7 +18,7 @@ WORDS = {"ensures", "requires", ".edit", "N passed, 0 failed"}
 # what is made by a build, or is a path in another place
 ELSEWHERE = ("target/", "/")
 SPAN = re.compile(r"`([^`\n]+)`")
-LINK = re.compile(r"\]\(([^)#]+)\)")
+LINK = re.compile(r"\]\(([^)#]*)#?([^)]*)\)")
 PATH = re.compile(r"[\w.*-]*(?:/[\w.*-]*)+")
 
 
@@ -82,11 +82,20 @@ def strict(document):
         yield f"only {cited} names and paths were found: has the format changed?"
 
 
+def anchors(document):
+    """What a link may have behind its #: a heading in small letters, without its marks, a hyphen for each space."""
+    headings = re.findall(r"^#+ (.*)$", document.read_text(), re.M)
+    return {re.sub(r"[^\w -]", "", heading.lower()).replace(" ", "-") for heading in headings}
+
+
 def leads(document):
     text = document.read_text()
-    for link in LINK.findall(text):
-        if not link.startswith("http") and not (document.parent / link).exists():
-            yield f"the link {link} leads nowhere"
+    for path, anchor in LINK.findall(text):
+        if path.startswith("http"):
+            continue
+        target = document.parent / path if path else document
+        if not target.exists() or (anchor and anchor not in anchors(target)):
+            yield f"the link {path}#{anchor} leads nowhere"
     for span in SPAN.findall(prose(text)):
         if PATH.fullmatch(span) and not span.startswith(ELSEWHERE) and not places(span, document):
             yield f"{span} does not exist"

@@ -3,7 +3,7 @@
 
 What it must print is written by hand in tests/plain/*-plain.txt, from docs/RECORDS.md; wire bytes that bring no reading are
 left out there and made from their digits. The CSV and the picture are compared with the numbers of the digits. What
-docs/OPERATIONS.md shows is printed.
+docs/OPERATIONS.md shows is printed, and its commands find a broken condition.
 tests/plain/every-kind.txt has every kind, every form of answer and every number that refuses a line; its answers are the
 Rust reference's.
 """
@@ -15,6 +15,7 @@ from pathlib import Path
 sys.dont_write_bytecode = True
 sys.path.insert(0, str(Path(__file__).resolve().parent / "plain"))
 from bad import bad_files, edges, unfit, usage  # noqa: E402
+from conditions import conditions  # noqa: E402
 from digits import pairs, silent_bytes  # noqa: E402
 from drawing import drawn  # noqa: E402
 from table import table  # noqa: E402
@@ -61,6 +62,7 @@ def main():
     with tempfile.TemporaryDirectory() as made:
         bad_files(Path(made))
         edges(Path(made))
+        conditions(Path(made))
     print(f"plain: {len(SESSIONS)} sessions in words, {rows} readings as CSV and drawn, {tried} answers that do not fit")
 
 

@@ -9,7 +9,6 @@ DOCS, STORED, TOOLS = ROOT / "docs", ROOT / "tests/plain", ROOT / "tools"
 SESSIONS = {
     "session": (DOCS, []),
     "four-arms": (DOCS, ["--map", "1234", "--magnets", "14"]),
-    "request-session": (DOCS, []),
     "every-kind": (STORED, []),
 }
 REPLAY = ROOT / "crates/unitlines/stdin", ROOT / "crates/unitlines/stdout"
