@@ -5,7 +5,7 @@ Every public function has a comment that says what it is for. In a library it as
 states its result by an equation and what each lent buffer holds afterwards by another; only the capture search's
 choice is free. A crate that is a part of another is that one's alone: no third crate's code names it, and its functions
 may ask what each call of them proves. Every file of specs/ and proofs/ opens with a comment that says what it is or why
-it is true.
+it is true, and has no line of more than 160 characters.
 """
 import re
 import sys
@@ -13,6 +13,7 @@ from pathlib import Path
 
 CRATES = Path(__file__).resolve().parent.parent / "crates"
 CLAUSE = re.compile(r"^\s*ensures(?: \w+)? \{ λ (\w+)\. (.*) \}$", re.M)
+WIDEST = 160
 # what a definition of specs/ says of the result where no equation could
 FREE = {"find_frame": "Searched", "esc_find_frame": "Searched"}
 # a crate that is a part of another
@@ -64,16 +65,19 @@ def strangers(path):
             yield f"{path}: {part} is for {whole} alone"
 
 
-def openings(path):
-    if not path.read_text().startswith("-- "):
+def layout(path):
+    text = path.read_text()
+    if not text.startswith("-- "):
         yield f"{path}: no comment at its top"
+    if max(map(len, text.split("\n"))) > WIDEST:
+        yield f"{path}: a line of more than {WIDEST} characters"
 
 
 def main():
     libraries = [crate for crate in CRATES.iterdir() if crate.name not in PARTS and not (crate / "src/main.rt").exists()]
     faults = [fault for crate in libraries for path in crate.glob("src/**/*.rt") for fault in contracts(path)]
     faults += [fault for path in CRATES.glob("*/src/**/*.rt") for fault in [*purposes(path), *strangers(path)]]
-    faults += [fault for path in CRATES.glob("*/*/**/*.antt") for fault in openings(path)]
+    faults += [fault for path in CRATES.glob("*/*/**/*.antt") for fault in layout(path)]
     for fault in sorted(faults):
         print(fault)
     sys.exit(1 if faults else 0)

@@ -10,7 +10,7 @@ use Rattle.esc_lanes.specs.declared.request.EscActuatorAck.{EscActuatorAck}
 use Rattle.esc_lanes.specs.declared.request.EscTelemetryUpdate.{EscTelemetryUpdate}
 use Rattle.esc_feedback.specs.declared.answer.EscManagerTimeout.{EscManagerTimeout}
 use Rattle.esc_feedback.specs.declared.answer.EscManagerTimeout.the-variants as timeout
-use Rattle.esc_unit.specs.Unit.{opens}
+use Rattle.esc_records.specs.Admission.{opens}
 use Rattle.esc_records.specs.declared.record.Record.{Record}
 use Rattle.esc_records.specs.declared.record.Record.the-variants as kind
 use Rattle.esc_answers.specs.declared.answer.IdleAnswer.{IdleAnswer}

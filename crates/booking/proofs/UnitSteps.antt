@@ -15,7 +15,8 @@ use Rattle.esc_feedback.specs.declared.answer.EscManagerTimeout.{EscManagerTime
 use Rattle.esc_feedback.specs.declared.answer.EscManagerTimeout.the-variants as timeout
 use Rattle.esc_feedback.specs.declared.manager.EscManager.{EscManager}
 use Rattle.esc_books.specs.Books.{noBooks, bookedIn, idleStatus}
-use Rattle.esc_unit.specs.Unit.{unitOf, stepped, ackedOn, wireStepped, recoveredOn, reportOf, stepOf, opens}
+use Rattle.esc_unit.specs.Unit.{unitOf, stepped, ackedOn, wireStepped, recoveredOn, reportOf, stepOf}
+use Rattle.esc_records.specs.Admission.{opens}
 use Rattle.esc_records.specs.declared.record.Record.{Record}
 use Rattle.esc_records.specs.declared.record.Record.the-variants as kind
 use Rattle.esc_answers.specs.declared.answer.IdleAnswer.{IdleAnswer}

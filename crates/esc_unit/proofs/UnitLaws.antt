@@ -9,10 +9,12 @@ use Rattle.base.specs.Choice.{pick}
 use Rattle.base.specs.Reply.{Reply, accepted, refused, isAccepted}
 use Rattle.esc_records.specs.Record.{readRecord}
 use Rattle.esc_answers.specs.Answer.{answerBytes}
-use Rattle.esc_unit.specs.Unit.{Replied, stepOf, opens, refusing, accepting, enter, ifRoom, callOn, callOf, outputAfter}
+use Rattle.esc_unit.specs.Unit.{Replied, stepOf, refusing, accepting, enter, ifRoom, callOn, callOf, outputAfter}
+use Rattle.esc_records.specs.Admission.{opens}
 use Rattle.esc_records.specs.declared.record.Record.{Record}
 use Rattle.esc_answers.specs.declared.answer.Answer.{Answer}
-use Rattle.esc_unit.specs.Admission.{admittedOn, admittedOf, onAdmitted}
+use Rattle.esc_unit.specs.Admission.{onAdmitted}
+use Rattle.esc_records.specs.Admission.{admittedOn, admittedOf}
 use Rattle.esc_unit.specs.declared.unit.Unit.{Unit}
 use Rattle.esc_unit.specs.declared.kinds.Stepped.{Stepped}
 
@@ -30,15 +32,6 @@ module _ (u : Unit) (r : Record) where
   pub enter-accepted : u .opened || opens r ≡ true → enter u r ≡ accepting (stepOf (u .manager) (u .books) r)
   unfolding enter
   enter-accepted e = either (u .opened) (opens r) true _ _ e
-
-module _ (opened : Bool) (s : List ℕ) where
-  pub admitted-unread : (n : ℕ) → readRecord s ≡ refused n → admittedOf opened s ≡ refused n
-  unfolding admittedOf
-  admitted-unread n e = ap (admittedOn opened) e
-
-  pub admitted-read : (r : Record) (b : Bool) → readRecord s ≡ accepted r → opened || opens r ≡ b → admittedOf opened s ≡ pick b (accepted r) (refused 8)
-  unfolding admittedOf
-  admitted-read r b e t = ap (admittedOn opened) e ∙ ap (λ (x : Bool). pick x (accepted r) (refused 8)) t
 
 -- a call is its record's admission, and then its answer
 pub call-admission : (u : Unit) (s : List ℕ) (room : ℕ) → callOf u s room ≡ onAdmitted u room (admittedOf (u .opened) s)

@@ -21,6 +21,7 @@ use Rattle.esc_feedback.specs.declared.answer.WireUpdate.{WireUpdate}
 use Rattle.esc_feedback.specs.declared.answer.WireUpdate.the-variants as update
 use Rattle.esc_feedback.specs.declared.manager.EscManager.{EscManager}
 use Rattle.esc_records.specs.Record.{readRecord}
+use Rattle.esc_records.specs.Admission.{opens}
 use Rattle.esc_answers.specs.Answer.{answerBytes}
 use Rattle.esc_books.specs.Figures.{figureAt}
 use Rattle.esc_books.specs.Books.{noBooks, checkedBy, samplesDropped, bookedIn, idleStatus, storedAt}
@@ -99,23 +100,6 @@ stepOf m b (kind.IdleStatus now) = stepped m (idleStatus b now .books) (answer.I
 stepOf m b kind.Report = stepped m b (answer.Report (reportOf m))
 stepOf m b (kind.StoredSample o) = stepped m b (answer.Stored (storedAt b o))
 stepOf m b (kind.Figures o) = stepped m b (answer.Figures (figureAt (b .figures) o))
-
-abbrev pub opens : Record → Bool
-opens (kind.Open c t) = true
-opens (kind.NextRequest now) = false
-opens (kind.MarkRequestQueued q now) = false
-opens (kind.ActuatorAck k now) = false
-opens (kind.PollTimeout now) = false
-opens (kind.WireByte x now) = false
-opens kind.WireDiscontinuity = false
-opens (kind.TryRecover armed now) = false
-opens kind.TakeBackAfterRetries = false
-opens kind.RefreshWireStats = false
-opens (kind.IdleCheck c t) = false
-opens (kind.IdleStatus now) = false
-opens kind.Report = false
-opens (kind.StoredSample o) = false
-opens (kind.Figures o) = false
 
 -- a unit and its reply
 pub record Replied : Type 0 where

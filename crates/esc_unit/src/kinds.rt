@@ -5,11 +5,14 @@ mod requests;
 mod wire;
 
 ghost use mathlib.Core.Path.{_≡_};
+ghost use Rattle.esc_feedback.specs.Manager.{newManager};
+ghost use Rattle.esc_books.specs.Books.{noBooks};
 ghost use Rattle.esc_unit.specs.Unit.{stepped, stepOf};
 use crate::unit::Unit;
 use esc_answers::Answer;
 use esc_books::Books;
 use esc_feedback::EscManager;
+use esc_feedback::EscManagerConfig;
 use esc_records::Record;
 
 // An opened unit after a record, and its answer.
@@ -26,10 +29,7 @@ pub fn step(manager: EscManager, books: Books, record: Record) -> Stepped
         Record::Open {
             config,
             boot_started_ms,
-        } => {
-            let opened = EscManager::new(config, boot_started_ms);
-            answered(opened, Books::new(), Answer::Done)
-        }
+        } => start_anew(config, boot_started_ms),
         Record::NextRequest { now_ms } => requests::next_request(manager, books, now_ms),
         Record::MarkRequestQueued { request, now_ms } => {
             requests::mark_request_queued(manager, books, request, now_ms)
@@ -42,27 +42,29 @@ pub fn step(manager: EscManager, books: Books, record: Record) -> Stepped
             byte,
             observed_at_ms,
         } => wire::push_wire_byte(manager, books, byte, observed_at_ms),
-        Record::WireDiscontinuity => {
-            answered(manager.record_wire_discontinuity(), books, Answer::Done)
-        }
+        Record::WireDiscontinuity => wire::record_wire_discontinuity(manager, books),
         Record::TryRecover { armed, now_ms } => {
             recovery::try_recover(manager, books, armed, now_ms)
         }
         Record::TakeBackAfterRetries => recovery::take_back_after_retries(manager, books),
-        Record::RefreshWireStats => answered(manager.refresh_wire_stats(), books, Answer::Done),
+        Record::RefreshWireStats => wire::refresh_wire_stats(manager, books),
         Record::IdleCheck {
             config,
             started_at_ms,
-        } => answered(
-            manager,
-            books.with_check(config, started_at_ms),
-            Answer::Done,
-        ),
+        } => report::idle_check(manager, books, config, started_at_ms),
         Record::IdleStatus { now_ms } => report::idle_status(manager, books, now_ms),
         Record::Report => report::report(manager, books),
         Record::StoredSample { output } => report::stored_sample(manager, books, output),
         Record::Figures { output } => report::figures(manager, books, output),
     }
+}
+
+// 00
+fn start_anew(config: EscManagerConfig, boot_started_ms: u64) -> Stepped
+    ensures { λ r. ⌜ r ≡ stepped (newManager config «boot_started_ms») noBooks Answer.Done ⌝ }
+{
+    let manager = EscManager::new(config, boot_started_ms);
+    answered(manager, Books::new(), Answer::Done)
 }
 
 fn answered(manager: EscManager, books: Books, answer: Answer) -> Stepped

@@ -9,4 +9,3 @@ pub use unit::Called;
 pub use unit::StepReply;
 pub use unit::Unit;
 pub use unit::UnitStepped;
-pub use unit::admit;

@@ -1,13 +1,10 @@
 // The unit: one manager and its books, one call for each record.
-mod admission;
 mod call;
 
-pub use admission::admit;
 pub use call::CallReply;
 pub use call::Called;
 ghost use mathlib.Core.Path.{_≡_};
-ghost use mathlib.Core.Bool.{_||_};
-ghost use Rattle.esc_unit.specs.Unit.{neverOpened, opens, enter};
+ghost use Rattle.esc_unit.specs.Unit.{neverOpened, enter};
 ghost use Rattle.esc_unit.specs.Replies.{stepReplied};
 use crate::kinds::step;
 use esc_answers::Answer;
@@ -15,6 +12,7 @@ use esc_books::Books;
 use esc_feedback::EscManager;
 use esc_feedback::EscManagerConfig;
 use esc_records::Record;
+use esc_records::takes;
 
 // Its parts are public, so that a loop over records can change in place what a record touches.
 pub struct Unit {
@@ -74,27 +72,4 @@ impl Unit {
             reply: StepReply::Answer(answer),
         }
     }
-}
-
-// Whether a record is taken: the unit is open, or the record opens it.
-pub(crate) fn takes(opened: bool, record: Record) -> bool
-    ensures { λ r. ⌜ r ≡ (opened || opens «record») ⌝ }
-{
-    if opened {
-        return true;
-    }
-    opens(record)
-}
-
-// Whether it is a 00.
-fn opens(record: Record) -> bool
-    ensures { λ r. ⌜ r ≡ opens «record» ⌝ }
-{
-    if let Record::Open {
-        config: _,
-        boot_started_ms: _,
-    } = record {
-        return true;
-    }
-    false
 }

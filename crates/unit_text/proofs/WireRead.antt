@@ -14,7 +14,7 @@ use Rattle.esc_records.specs.Record.{recordOf, readRecord}
 use Rattle.esc_records.specs.declared.record.Record.the-variants as kind
 use Rattle.base.proofs.NumberLaws.{number-more, below-more}
 use Rattle.esc_records.proofs.RecordLaws.{read-accepted}
-use Rattle.esc_unit.proofs.UnitLaws.{admitted-read}
+use Rattle.esc_records.proofs.AdmissionLaws.{admitted-read}
 use Rattle.hex_lines.specs.Digit.{digitOf, pairOf}
 use Rattle.hex_lines.specs.Line.{lineEnd, allDigits, pairs}
 use Rattle.hex_lines.specs.NextLine.{firstLine}

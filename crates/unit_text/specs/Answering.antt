@@ -6,7 +6,7 @@ use mathlib.Core.List.{List}
 use lib.ListN.{length}
 use Rattle.base.specs.BigEndian.{overwrite}
 use Rattle.base.specs.Reply.{Reply, accepted, refused}
-use Rattle.esc_unit.specs.Admission.{admittedOf}
+use Rattle.esc_records.specs.Admission.{admittedOf}
 use Rattle.esc_answers.specs.Answer.{replyBytes}
 use Rattle.esc_records.specs.declared.record.Record.{Record}
 use Rattle.esc_unit.specs.declared.unit.Unit.{Unit}

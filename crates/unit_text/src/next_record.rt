@@ -9,7 +9,7 @@ ghost use Rattle.unit_text.specs.NextRecord.{NextRecordFrom};
 ghost use Rattle.esc_records.specs.Record.{recordRead};
 use esc_records::Record;
 use esc_records::RecordRead;
-use esc_unit::admit;
+use esc_records::admit;
 use hex_lines::line::LineRead;
 use hex_lines::next_line::NextLine;
 use hex_lines::next_line::next_line;

@@ -13,11 +13,14 @@ pub fn try_recover(manager: EscManager, books: Books, armed: bool, now_ms: u64) 
     ensures { λ r. ⌜ r ≡ stepOf manager books (Record.TryRecover armed «now_ms») ⌝ }
 {
     let recovered = manager.try_recover(now_ms, armed);
-    let after = recovered.manager;
     if !recovered.answer {
-        return answered(after, books, Answer::Decided(false));
+        return answered(recovered.manager, books, Answer::Decided(false));
     }
-    answered(after, books.samples_dropped(), Answer::Decided(true))
+    answered(
+        recovered.manager,
+        books.samples_dropped(),
+        Answer::Decided(true),
+    )
 }
 
 // 08
@@ -25,7 +28,6 @@ pub fn take_back_after_retries(manager: EscManager, books: Books) -> Stepped
     ensures { λ r. ⌜ r ≡ stepOf manager books Record.TakeBackAfterRetries ⌝ }
 {
     let taken = manager.take_back_after_retries();
-    let after = taken.manager;
     let note = taken.answer;
-    answered(after, books, Answer::BackAfterRetries(note))
+    answered(taken.manager, books, Answer::BackAfterRetries(note))
 }

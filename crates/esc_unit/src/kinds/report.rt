@@ -1,4 +1,4 @@
-// 0b to 0e: what the idle check says, and what the manager and the books show.
+// 0a to 0e: the idle check, and what the manager and the books show.
 ghost use mathlib.Core.Path.{_≡_};
 ghost use Rattle.esc_unit.specs.Unit.{stepOf};
 use crate::kinds::Stepped;
@@ -7,17 +7,33 @@ use esc_answers::Answer;
 use esc_answers::UnitReport;
 use esc_books::Books;
 use esc_feedback::EscManager;
+use esc_idle::EscIdleQualificationConfig;
 use esc_lanes::EscOutput;
 use esc_records::Record;
+
+// 0a: a new check in place of the one before.
+pub fn idle_check(
+    manager: EscManager,
+    books: Books,
+    config: EscIdleQualificationConfig,
+    started_at_ms: u64,
+) -> Stepped
+    ensures { λ r. ⌜ r ≡ stepOf manager books (Record.IdleCheck config «started_at_ms») ⌝ }
+{
+    answered(
+        manager,
+        books.with_check(config, started_at_ms),
+        Answer::Done,
+    )
+}
 
 // 0b: the check keeps its verdict.
 pub fn idle_status(manager: EscManager, books: Books, now_ms: u64) -> Stepped
     ensures { λ r. ⌜ r ≡ stepOf manager books (Record.IdleStatus «now_ms») ⌝ }
 {
     let booked = books.idle_status(now_ms);
-    let kept = booked.books;
     let status = booked.status;
-    answered(manager, kept, Answer::Idle(status))
+    answered(manager, booked.books, Answer::Idle(status))
 }
 
 // 0c

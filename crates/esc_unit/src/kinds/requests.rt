@@ -1,6 +1,6 @@
 // 01 to 04: requests, their queueing, their start and their end.
 ghost use mathlib.Core.Path.{_≡_};
-ghost use Rattle.esc_unit.specs.Unit.{stepOf};
+ghost use Rattle.esc_unit.specs.Unit.{stepOf, ackedOn};
 use crate::kinds::Stepped;
 use crate::kinds::answered;
 use esc_answers::AckAnswer;
@@ -11,6 +11,7 @@ use esc_feedback::EscAckOutcome;
 use esc_feedback::EscManager;
 use esc_lanes::EscActuatorAck;
 use esc_lanes::EscActuatorRequest;
+use esc_lanes::EscTelemetryUpdate;
 use esc_records::Record;
 
 // 01
@@ -31,8 +32,7 @@ pub fn mark_request_queued(
     ensures { λ r. ⌜ r ≡ stepOf manager books (Record.MarkRequestQueued request «now_ms») ⌝ }
 {
     let marked = manager.mark_request_queued(request, now_ms);
-    let after = marked.manager;
-    answered(after, books, Answer::Decided(marked.answer))
+    answered(marked.manager, books, Answer::Decided(marked.answer))
 }
 
 // 03: a frame that came early is judged now, at the record's own time.
@@ -45,19 +45,21 @@ pub fn on_actuator_ack(
     ensures { λ r. ⌜ r ≡ stepOf manager books (Record.ActuatorAck ack «now_ms») ⌝ }
 {
     let acked = manager.on_actuator_ack(ack);
-    let after = acked.manager;
     let outcome = acked.answer;
     match outcome {
-        EscAckOutcome::Rejected => answered(after, books, Answer::Ack(AckAnswer::Rejected)),
-        EscAckOutcome::Accepted => answered(after, books, Answer::Ack(AckAnswer::Accepted)),
-        EscAckOutcome::Sample(update) => {
-            let booked = books.booked(update, now_ms);
-            let kept = booked.books;
-            let status = booked.status;
-            let delivered = Delivered { update, status };
-            answered(after, kept, Answer::Ack(AckAnswer::Sample(delivered)))
-        }
+        EscAckOutcome::Rejected => answered(acked.manager, books, Answer::Ack(AckAnswer::Rejected)),
+        EscAckOutcome::Accepted => answered(acked.manager, books, Answer::Ack(AckAnswer::Accepted)),
+        EscAckOutcome::Sample(update) => ack_sample(acked.manager, books, update, now_ms),
     }
+}
+
+fn ack_sample(manager: EscManager, books: Books, update: EscTelemetryUpdate, now_ms: u64) -> Stepped
+    ensures { λ r. ⌜ r ≡ ackedOn manager books «now_ms» (EscAckOutcome.Sample update) ⌝ }
+{
+    let booked = books.booked(update, now_ms);
+    let status = booked.status;
+    let ack = AckAnswer::Sample(Delivered { update, status });
+    answered(manager, booked.books, Answer::Ack(ack))
 }
 
 // 04
@@ -65,7 +67,6 @@ pub fn poll_timeout(manager: EscManager, books: Books, now_ms: u64) -> Stepped
     ensures { λ r. ⌜ r ≡ stepOf manager books (Record.PollTimeout «now_ms») ⌝ }
 {
     let polled = manager.poll_timeout(now_ms);
-    let after = polled.manager;
     let timeout = polled.answer;
-    answered(after, books, Answer::Timeout(timeout))
+    answered(polled.manager, books, Answer::Timeout(timeout))
 }

@@ -7,11 +7,11 @@ ghost use Rattle.esc_unit.specs.Admission.{onAdmitted};
 ghost use Rattle.esc_unit.specs.Replies.{callReply};
 use crate::kinds::step;
 use crate::unit::Unit;
-use crate::unit::admit;
 use base::Handed;
 use esc_answers::write_answer;
 use esc_records::Record;
 use esc_records::RecordRead;
+use esc_records::admit;
 
 pub enum CallReply {
     // How many bytes the answer has.

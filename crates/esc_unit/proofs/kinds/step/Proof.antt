@@ -7,14 +7,8 @@ use Rattle.esc_unit.proofs.kinds.step.Tie as tie
 enum-known-record : tie.Need-enum-known-record
 enum-known-record c = search needs
 
-new-requires : tie.Need-new-requires
-new-requires c κs = search needs
-
-new-requires-2 : tie.Need-new-requires-2
-new-requires-2 c κs = search needs
-
-answered-requires : tie.Need-answered-requires
-answered-requires c κs = search needs
+start-anew-requires : tie.Need-start-anew-requires
+start-anew-requires c κs = search needs
 
 enum-known-record-2 : tie.Need-enum-known-record-2
 enum-known-record-2 c = search needs
@@ -52,9 +46,6 @@ enum-told c = search needs
 record-wire-discontinuity-requires : tie.Need-record-wire-discontinuity-requires
 record-wire-discontinuity-requires c κs = search needs
 
-answered-requires-2 : tie.Need-answered-requires-2
-answered-requires-2 c κs = search needs
-
 enum-known-record-7 : tie.Need-enum-known-record-7
 enum-known-record-7 c = search needs
 
@@ -73,17 +64,11 @@ enum-told-3 c = search needs
 refresh-wire-stats-requires : tie.Need-refresh-wire-stats-requires
 refresh-wire-stats-requires c κs = search needs
 
-answered-requires-3 : tie.Need-answered-requires-3
-answered-requires-3 c κs = search needs
-
 enum-known-record-8 : tie.Need-enum-known-record-8
 enum-known-record-8 c = search needs
 
-with-check-requires : tie.Need-with-check-requires
-with-check-requires c κs = search needs
-
-answered-requires-4 : tie.Need-answered-requires-4
-answered-requires-4 c κs = search needs
+idle-check-requires : tie.Need-idle-check-requires
+idle-check-requires c κs = search needs
 
 enum-known-record-9 : tie.Need-enum-known-record-9
 enum-known-record-9 c = search needs
@@ -111,7 +96,7 @@ figures-requires c κs = search needs
 
 returns : tie.Need-returns
 unfolding stepOf
-returns c = rw (c .before .before .before .before .«record» .given .1, c .answered .ensures, c .before .new2 .ensures, c .before .before .new .ensures)
+returns c = rw (c .before .before .«record» .given .1) (c .start-anew .ensures)
 
 returns-2 : tie.Need-returns-2
 returns-2 c = rw (c .before .before .record2 .given .1) (c .next-request .ensures)
@@ -129,8 +114,7 @@ returns-6 : tie.Need-returns-6
 returns-6 c = rw (c .before .before .record6 .given .1) (c .push-wire-byte .ensures)
 
 returns-7 : tie.Need-returns-7
-unfolding stepOf
-returns-7 c = rw (c .before .before .enum-told .given .1, c .answered2 .ensures, c .before .record-wire-discontinuity .ensures)
+returns-7 c = rw (c .before .enum-told .given .1) (c .record-wire-discontinuity .ensures)
 
 returns-8 : tie.Need-returns-8
 returns-8 c = rw (c .before .before .record7 .given .1) (c .try-recover .ensures)
@@ -139,12 +123,10 @@ returns-9 : tie.Need-returns-9
 returns-9 c = rw (c .before .enum-told2 .given .1) (c .take-back-after-retries .ensures)
 
 returns-10 : tie.Need-returns-10
-unfolding stepOf
-returns-10 c = rw (c .before .before .enum-told3 .given .1, c .answered3 .ensures, c .before .refresh-wire-stats .ensures)
+returns-10 c = rw (c .before .enum-told3 .given .1) (c .refresh-wire-stats .ensures)
 
 returns-11 : tie.Need-returns-11
-unfolding stepOf
-returns-11 c = rw (c .before .before .before .record8 .given .1, c .answered4 .ensures, c .before .with-check .ensures)
+returns-11 c = rw (c .before .before .record8 .given .1) (c .idle-check .ensures)
 
 returns-12 : tie.Need-returns-12
 returns-12 c = rw (c .before .before .record9 .given .1) (c .idle-status .ensures)
@@ -163,9 +145,7 @@ step-spec =
     tie.close
     (tie.spec
     enum-known-record
-    new-requires
-    new-requires-2
-    answered-requires
+    start-anew-requires
     enum-known-record-2
     next-request-requires
     enum-known-record-3
@@ -178,17 +158,14 @@ step-spec =
     push-wire-byte-requires
     enum-told
     record-wire-discontinuity-requires
-    answered-requires-2
     enum-known-record-7
     try-recover-requires
     enum-told-2
     take-back-after-retries-requires
     enum-told-3
     refresh-wire-stats-requires
-    answered-requires-3
     enum-known-record-8
-    with-check-requires
-    answered-requires-4
+    idle-check-requires
     enum-known-record-9
     idle-status-requires
     enum-told-4

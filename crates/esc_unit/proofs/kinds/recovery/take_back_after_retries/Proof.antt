@@ -12,7 +12,7 @@ answered-requires c κs = search needs
 
 returns : tie.Need-returns
 unfolding stepOf
-returns c = rw (c .answered .ensures, c .before .before .take-back-after-retries .ensures)
+returns c = rw (c .answered .ensures, c .before .take-back-after-retries .ensures)
 
 pub take-back-after-retries-spec : {M : Type 1} → statement M
 take-back-after-retries-spec =

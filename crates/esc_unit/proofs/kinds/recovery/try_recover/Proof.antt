@@ -16,7 +16,7 @@ answered-requires c κs = search needs
 
 returns : tie.Need-returns
 returns c =
-    let e = c .before .before .before .before .try-recover .ensures in
+    let e = c .before .before .before .try-recover .ensures in
     rw (c .answered .ensures, e) (sym (step-recovery _ _ _ _ false (sym (ap (λ (r : Recovered). r .answer) e) ∙ not-true _ (c .before .if1 .taken))))
 
 samples-dropped-requires : tie.Need-samples-dropped-requires
@@ -27,7 +27,7 @@ answered-requires-2 c κs = search needs
 
 returns-2 : tie.Need-returns-2
 returns-2 c =
-    let e = c .before .before .before .before .before .try-recover .ensures in
+    let e = c .before .before .before .before .try-recover .ensures in
     rw (c .answered2 .ensures, c .before .samples-dropped .ensures, e) (sym (step-recovery _ _ _ _ true (sym (ap (λ (r : Recovered). r .answer) e) ∙
     not-false _ (c .before .before .if1 .left))))
 

@@ -12,7 +12,7 @@ answered-requires c κs = search needs
 
 returns : tie.Need-returns
 unfolding stepOf
-returns c = rw (c .answered .ensures, c .before .before .idle-status .ensures)
+returns c = rw (c .answered .ensures, c .before .idle-status .ensures)
 
 pub idle-status-spec : {M : Type 1} → statement M
 idle-status-spec = tie.close (tie.spec idle-status-requires answered-requires returns)

@@ -12,7 +12,7 @@ answered-requires c κs = search needs
 
 returns : tie.Need-returns
 unfolding stepOf
-returns c = rw (c .answered .ensures, c .before .before .mark-request-queued .ensures)
+returns c = rw (c .answered .ensures, c .before .mark-request-queued .ensures)
 
 pub mark-request-queued-spec : {M : Type 1} → statement M
 mark-request-queued-spec =

@@ -23,27 +23,23 @@ answered-requires-2 c κs = search needs
 enum-known-outcome : tie.Need-enum-known-outcome
 enum-known-outcome c = search needs
 
-booked-requires : tie.Need-booked-requires
-booked-requires c κs = search needs
-
-answered-requires-3 : tie.Need-answered-requires-3
-answered-requires-3 c κs = search needs
+ack-sample-requires : tie.Need-ack-sample-requires
+ack-sample-requires c κs = search needs
 
 returns : tie.Need-returns
 returns c =
-    let e = c .before .before .before .before .on-actuator-ack .ensures in
+    let e = c .before .before .before .on-actuator-ack .ensures in
     rw (c .answered .ensures, e) (sym (step-ack _ _ _ _ _ (rw e at (c .before .enum-told .given .1))))
 
 returns-2 : tie.Need-returns-2
 returns-2 c =
-    let e = c .before .before .before .before .on-actuator-ack .ensures in
+    let e = c .before .before .before .on-actuator-ack .ensures in
     rw (c .answered2 .ensures, e) (sym (step-ack _ _ _ _ _ (rw e at (c .before .enum-told2 .given .1))))
 
 returns-3 : tie.Need-returns-3
 returns-3 c =
-    let e = c .before .before .before .before .before .before .before .on-actuator-ack .ensures in
-    rw (c .answered3 .ensures, c .before .before .booked .ensures, e) (sym (step-ack _ _ _ _ _ (rw e at
-    (c .before .before .before .before .outcome .given .1))))
+    let e = c .before .before .before .before .on-actuator-ack .ensures in
+    rw (c .ack-sample .ensures, e) (sym (step-ack _ _ _ _ _ (rw e at (c .before .before .outcome .given .1))))
 
 pub on-actuator-ack-spec : {M : Type 1} → statement M
 on-actuator-ack-spec =
@@ -55,8 +51,7 @@ on-actuator-ack-spec =
     enum-told-2
     answered-requires-2
     enum-known-outcome
-    booked-requires
-    answered-requires-3
+    ack-sample-requires
     returns
     returns-2
     returns-3)

@@ -12,7 +12,7 @@ answered-requires c κs = search needs
 
 returns : tie.Need-returns
 unfolding stepOf
-returns c = rw (c .answered .ensures, c .before .before .poll-timeout .ensures)
+returns c = rw (c .answered .ensures, c .before .poll-timeout .ensures)
 
 pub poll-timeout-spec : {M : Type 1} → statement M
 poll-timeout-spec = tie.close (tie.spec poll-timeout-requires answered-requires returns)

@@ -17,31 +17,20 @@ answered-requires c κs = search needs
 enum-known-found : tie.Need-enum-known-found
 enum-known-found c = search needs
 
-booked-requires : tie.Need-booked-requires
-booked-requires c κs = search needs
-
-answered-requires-2 : tie.Need-answered-requires-2
-answered-requires-2 c κs = search needs
+wire-sample-requires : tie.Need-wire-sample-requires
+wire-sample-requires c κs = search needs
 
 returns : tie.Need-returns
 returns c =
-    let e = c .before .before .before .before .push-wire-byte .ensures in
+    let e = c .before .before .before .push-wire-byte .ensures in
     rw (c .answered .ensures, e) (sym (step-byte _ _ _ _ _ (rw e at (c .before .enum-told .given .1))))
 
 returns-2 : tie.Need-returns-2
 returns-2 c =
-    let e = c .before .before .before .before .before .before .before .push-wire-byte .ensures in
-    rw (c .answered2 .ensures, c .before .before .booked .ensures, e) (sym (step-byte _ _ _ _ _ (rw e at (c .before .before .before .before .found .given .1))))
+    let e = c .before .before .before .before .push-wire-byte .ensures in
+    rw (c .wire-sample .ensures, e) (sym (step-byte _ _ _ _ _ (rw e at (c .before .before .found .given .1))))
 
 pub push-wire-byte-spec : {M : Type 1} → statement M
 push-wire-byte-spec =
     tie.close
-    (tie.spec
-    push-wire-byte-requires
-    enum-told
-    answered-requires
-    enum-known-found
-    booked-requires
-    answered-requires-2
-    returns
-    returns-2)
+    (tie.spec push-wire-byte-requires enum-told answered-requires enum-known-found wire-sample-requires returns returns-2)

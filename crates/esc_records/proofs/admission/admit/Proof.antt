@@ -1,11 +1,11 @@
 -- The reader's refusals, and then whether the unit is open or the record opens it.
 use mathlib.Core.Path.{sym, ap, _∙_}
 use mathlib.Core.Bool.{true, false}
 use Rattle.esc_records.specs.Record.{recordRead}
-use Rattle.esc_unit.proofs.UnitLaws.{admitted-unread, admitted-read}
+use Rattle.esc_records.proofs.AdmissionLaws.{admitted-unread, admitted-read}
 use borrow.Author.Needs.{needs}
-use Rattle.esc_unit.proofs.unit.admission.admit.Statement.{statement}
-use Rattle.esc_unit.proofs.unit.admission.admit.Tie as tie
+use Rattle.esc_records.proofs.admission.admit.Statement.{statement}
+use Rattle.esc_records.proofs.admission.admit.Tie as tie
 
 read-record-requires : tie.Need-read-record-requires
 read-record-requires c κs = search needs

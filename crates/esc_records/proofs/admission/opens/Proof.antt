@@ -5,13 +5,13 @@ use mathlib.Core.List.{List, [], _∷_}
 use Prim.Native.Nat.{ℕ}
 use denote.Enum.Declared.{tagOf}
 use types.Run.{OneOf, miss}
-use Rattle.esc_unit.specs.Unit.{opens}
+use Rattle.esc_records.specs.Admission.{opens}
 use Rattle.esc_records.specs.declared.record.Record.{Record}
 use Rattle.esc_records.specs.declared.record.Record.the-variants as kind
 use Rattle.esc_records.proofs.record.Record.{the-type}
 use borrow.Author.Needs.{needs}
-use Rattle.esc_unit.proofs.unit.opens.Statement.{statement}
-use Rattle.esc_unit.proofs.unit.opens.Tie as tie
+use Rattle.esc_records.proofs.admission.opens.Statement.{statement}
+use Rattle.esc_records.proofs.admission.opens.Tie as tie
 
 -- the other fourteen kinds
 abbrev others : List ℕ

@@ -1,7 +1,7 @@
 -- An opened unit takes every record, another one only a 00.
 use borrow.Author.Needs.{needs}
-use Rattle.esc_unit.proofs.unit.takes.Statement.{statement}
-use Rattle.esc_unit.proofs.unit.takes.Tie as tie
+use Rattle.esc_records.proofs.admission.takes.Statement.{statement}
+use Rattle.esc_records.proofs.admission.takes.Tie as tie
 
 returns : tie.Need-returns
 returns c = rw (c .if1 .taken)
