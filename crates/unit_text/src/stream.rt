@@ -71,10 +71,9 @@ impl Stream {
         let mut bytes = [0u8; LONGEST_RECORD];
         // The unit's parts are variables, and the kinds of a flight are arms of this loop, so that a line moves
         // only what it touches: with an arm in a function of its own the whole takes longer (docs/PERFORMANCE.md).
-        let first = self.unit;
-        let mut opened = first.opened;
-        let mut manager = first.manager;
-        let mut books = first.books;
+        let mut opened = self.unit.opened;
+        let mut manager = self.unit.manager;
+        let mut books = self.unit.books;
         let mut line = self.line;
         let mut held = at_most_held(self.held);
         let mut used: usize = 0;
@@ -172,9 +171,8 @@ impl Stream {
                         // Any other kind goes by the unit's step.
                         _ => {
                             let stepped = step(manager, books, record);
-                            let unit = stepped.unit;
-                            manager = unit.manager;
-                            books = unit.books;
+                            manager = stepped.unit.manager;
+                            books = stepped.unit.books;
                             let answer = stepped.answer;
                             written = print_text(answer_text(answer), out, written);
                         }

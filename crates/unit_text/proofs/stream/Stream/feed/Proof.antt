@@ -44,15 +44,15 @@ abbrev μ-loop : tie.MeasureT-loop
 μ-loop chunk out₀ digits bytes₀ opened₀ manager₀ books₀ line₀ held₀ used₀ written₀ out bytes opened manager books line held used written = length chunk - used
 
 -- no more than the buffer is held, whatever the stream says
-held : (c : tie.After-at-most-held Inv-loop μ-loop) → take (c .before .before .before .before .before .before .before .before .args .self .held)
-    (c .before .before .before .before .before .before .before .before .args .self .line)
-    ≡ take (c .at-most-held .result) (c .before .before .before .before .before .before .before .before .args .self .line)
-held c = held-line _ (c .before .before .before .before .before .before .before .before .args .self .held) _ (search needs) (c .at-most-held .ensures)
+held : (c : tie.After-at-most-held Inv-loop μ-loop) → take (c .before .before .before .before .before .before .before .args .self .held)
+    (c .before .before .before .before .before .before .before .args .self .line)
+    ≡ take (c .at-most-held .result) (c .before .before .before .before .before .before .before .args .self .line)
+held c = held-line _ (c .before .before .before .before .before .before .before .args .self .held) _ (search needs) (c .at-most-held .ensures)
 
 -- a turn: there is room for any line more
 module _ (t : tie.Else1 Inv-loop μ-loop) where
   abbrev chunk : List ℕ
-  chunk = now (t .before .before .before .before .before .before .before .before .before .before .before .args .chunk)
+  chunk = now (t .before .before .before .before .before .before .before .before .before .before .args .chunk)
 
   abbrev left-over : List ℕ
   left-over = drop (t .before .before .loop .used) chunk
@@ -67,7 +67,7 @@ module _ (t : tie.Else1 Inv-loop μ-loop) where
   abbrev heard : Reply (List ℕ)
   heard = readLine (begun ++ firstLine left-over)
 
-  roomy : longestLine ≤ length (now (t .before .before .before .before .before .before .before .before .before .before .before .args .out)) -
+  roomy : longestLine ≤ length (now (t .before .before .before .before .before .before .before .before .before .before .args .out)) -
       t .before .before .loop .written
   roomy = omega (arith, t .before .before .loop .inv .long, t .if1 .left)
 
@@ -160,7 +160,7 @@ part-collected-byte-end : tie.Need-part-collected-byte-end Inv-loop μ-loop
 part-collected-byte-end c = search needs
 
 collected-byte-requires : tie.Need-collected-byte-requires Inv-loop μ-loop
-collected-byte-requires c κs = c .before .before .before .before .before .before .before .before .before .before .before .digits .ensures
+collected-byte-requires c κs = c .before .before .before .before .before .before .before .before .before .before .digits .ensures
 
 enum-known-byte : tie.Need-enum-known-byte Inv-loop μ-loop
 enum-known-byte c = search needs
@@ -181,7 +181,7 @@ add-used-2 : tie.Need-add-used-2 Inv-loop μ-loop
 add-used-2 c = omega (
   arith,
   c .before .before .before .before .before .before .before .before .before .before .before .before .before .before .before .before .before
-      .before .before .before .before .before .before .before .before .good,
+      .before .before .before .before .before .before .before .good,
   passes (c .before .before .before .before .before .before .before),
 )
 
@@ -223,8 +223,7 @@ slice-aggregate-next-record-2 c = search needs
 
 next-record-requires : tie.Need-next-record-requires Inv-loop μ-loop
 next-record-requires c κs = (
-  c .before .before .before .before .before .before .before .before .before .before .before .before .before .before .before .before .before
-      .before .digits .ensures,
+  c .before .before .before .before .before .before .before .before .before .before .before .before .before .before .before .before .before .digits .ensures,
   c .before .before .before .before .before .before .before .before .before .before .before .before .loop .inv .room,
   c .before .before .before .before .before .before .before .before .before .before .before .before .loop .inv .buffer,
   c .before .before .before .before .before .before .before .before .before .before .before .before .loop .inv .holds,
@@ -236,8 +235,7 @@ enum-known-found c = search needs
 loop-less-2 : tie.Need-loop-less-2 Inv-loop μ-loop
 loop-less-2 c = omega (
   arith,
-  c .before .before .before .before .before .before .before .before .before .before .before .before .before .before .before .before .before
-      .loop-test .taken,
+  c .before .before .before .before .before .before .before .before .before .before .before .before .before .before .before .before .before .loop-test .taken,
 )
 
 loop-again-2 : tie.Need-loop-again-2 Inv-loop μ-loop
@@ -253,7 +251,7 @@ add-used-3 : tie.Need-add-used-3 Inv-loop μ-loop
 add-used-3 c = omega (
   arith,
   c .before .before .before .before .before .before .before .before .before .before .before .before .before .before .before .before .before
-      .before .before .before .before .before .before .before .before .before .before .good,
+      .before .before .before .before .before .before .before .before .before .good,
   goes (c .before .before .before) (refusal c),
 )
 
@@ -279,7 +277,7 @@ add-used-4 : tie.Need-add-used-4 Inv-loop μ-loop
 add-used-4 c = omega (
   arith,
   c .before .before .before .before .before .before .before .before .before .before .before .before .before .before .before .before .before
-      .before .before .before .before .before .before .before .before .before .before .good,
+      .before .before .before .before .before .before .before .before .before .good,
   goes (c .before .before .before) (taken c),
 )
 
@@ -521,18 +519,18 @@ answer-text-requires : tie.Need-answer-text-requires Inv-loop μ-loop
 answer-text-requires c κs = search needs
 
 print-text-requires-5 : tie.Need-print-text-requires-5 Inv-loop μ-loop
-print-text-requires-5 c κs = (answer-fits _ (c .before .answer-text .ensures .0), space (c .before .before .before .before .before .before .before))
+print-text-requires-5 c κs = (answer-fits _ (c .before .answer-text .ensures .0), space (c .before .before .before .before .before .before))
 
 loop-less-12 : tie.Need-loop-less-12 Inv-loop μ-loop
-loop-less-12 c = shorter (c .before .before .before .before .before .before .before .before .before .before)
+loop-less-12 c = shorter (c .before .before .before .before .before .before .before .before .before)
 
 loop-again-12 : tie.Need-loop-again-12 Inv-loop μ-loop
 loop-again-12 c =
-    let t = c .before .before .before .before .before .before .before .before .before .before in
+    let t = c .before .before .before .before .before .before .before .before .before in
     let b = t .before .before .before in
     let l = turn b .before .before .loop in
     (feeding-record (l .inv) (roomy (turn b)) (taken t)
-    (answers-step (was (turn b)) (heard (turn b)) _ _ (taken t .admitted) (c .before .before .before .before .before .before .before .before .step .ensures))
+    (answers-step (was (turn b)) (heard (turn b)) _ _ (taken t .admitted) (c .before .before .before .before .before .before .before .step .ensures))
     (rw (c .before .before .before .before .answer-text .ensures .1) at (c .before .before .print-text5 .ensures))
     (c .before .before .print-text5 .kept .1 .0) (bytes-room b))
 
