@@ -2,14 +2,14 @@
 ghost use Prim.Native.Nat.{_≤_};
 ghost use lib.ListN.{length};
 ghost use Rattle.unit_text.specs.Stream.{longestLine};
-use crate::arguments::Argument;
 use crate::arguments::argument_text;
-use crate::arguments::classify;
 use crate::messages::not_opened;
 use crate::messages::not_read;
 use crate::messages::not_written;
 use crate::session::Ended;
 use crate::session::run;
+use command_line::Argument;
+use command_line::classify;
 use libc::STDIN_FILENO;
 
 // Answers a descriptor's session. Whether to go on: what can't be read is named and passed over, but

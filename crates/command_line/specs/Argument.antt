@@ -5,8 +5,8 @@ use mathlib.Core.List.{List, [], _∷_}
 use Prim.Native.Nat.{ℕ}
 use lib.Dec.{eqb}
 use Rattle.base.specs.Choice.{pick}
-use Rattle.unitlines.specs.declared.arguments.Argument.{Argument}
-use Rattle.unitlines.specs.declared.arguments.Argument.the-variants.{Input, File, EndOfOptions, Help, Version, UnknownOption}
+use Rattle.command_line.specs.declared.argument.Argument.{Argument}
+use Rattle.command_line.specs.declared.argument.Argument.the-variants.{Input, File, EndOfOptions, Help, Version, UnknownOption}
 
 -- whether two texts are the same
 unfoldable pub same : List ℕ → List ℕ → Bool

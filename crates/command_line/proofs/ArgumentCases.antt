@@ -2,8 +2,8 @@
 use mathlib.Core.Path.{_≡_, refl}
 use mathlib.Core.Bool.{true, false}
 use mathlib.Core.List.{[], _∷_}
-use Rattle.unitlines.specs.Arguments.{kindOf, optionOrFile, same, startsWithDash}
-use Rattle.unitlines.specs.declared.arguments.Argument.the-variants.{Input, File, EndOfOptions, Help, Version, UnknownOption}
+use Rattle.command_line.specs.Argument.{kindOf, optionOrFile, same, startsWithDash}
+use Rattle.command_line.specs.declared.argument.Argument.the-variants.{Input, File, EndOfOptions, Help, Version, UnknownOption}
 
 pub record ArgumentCases : Type 0 where
   -- -

@@ -7,9 +7,9 @@ use mathlib.Core.List.{List, [], _∷_}
 use Prim.Native.Nat.{ℕ}
 use lib.Dec.{eqb}
 use lib.ListN.{length, getD}
-use Rattle.unitlines.specs.Arguments.{startsWithDash}
-use Rattle.unitlines.proofs.arguments.starts_with_dash.Statement.{statement}
-use Rattle.unitlines.proofs.arguments.starts_with_dash.Tie as tie
+use Rattle.command_line.specs.Argument.{startsWithDash}
+use Rattle.command_line.proofs.argument.starts_with_dash.Statement.{statement}
+use Rattle.command_line.proofs.argument.starts_with_dash.Tie as tie
 
 none : (text : List ℕ) → length text ≡ 0 → false ≡ startsWithDash text
 unfolding startsWithDash

@@ -1,8 +1,8 @@
 -- What the kit's comparison tells both ways is the test.
 use borrow.Author.Needs.{needs}
-use Rattle.unitlines.proofs.ArgumentLaws.{told-same}
-use Rattle.unitlines.proofs.arguments.is.Statement.{statement}
-use Rattle.unitlines.proofs.arguments.is.Tie as tie
+use Rattle.command_line.proofs.ArgumentLaws.{told-same}
+use Rattle.command_line.proofs.argument.is.Statement.{statement}
+use Rattle.command_line.proofs.argument.is.Tie as tie
 
 same-requires : tie.Need-same-requires
 same-requires c κs = search needs

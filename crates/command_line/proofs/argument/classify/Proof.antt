@@ -2,9 +2,9 @@
 use borrow.Author.Needs.{needs}
 use borrow.Author.Tests.{not-true, not-false}
 use mathlib.Core.Path.{sym, _∙_}
-use Rattle.unitlines.specs.Arguments.{kindOf}
-use Rattle.unitlines.proofs.arguments.classify.Statement.{statement}
-use Rattle.unitlines.proofs.arguments.classify.Tie as tie
+use Rattle.command_line.specs.Argument.{kindOf}
+use Rattle.command_line.proofs.argument.classify.Statement.{statement}
+use Rattle.command_line.proofs.argument.classify.Tie as tie
 
 slice-aggregate-is : tie.Need-slice-aggregate-is
 slice-aggregate-is c = search needs

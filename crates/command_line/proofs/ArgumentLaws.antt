@@ -5,7 +5,7 @@ use mathlib.Core.List.{List, [], _∷_}
 use Prim.Native.Nat.{ℕ}
 use lib.Dec.{eqb}
 use borrow.Author.Tests.{eqb-true, eq-eqb}
-use Rattle.unitlines.specs.Arguments.{same}
+use Rattle.command_line.specs.Argument.{same}
 
 same-self : (x : List ℕ) → same x x ≡ true
 unfolding same

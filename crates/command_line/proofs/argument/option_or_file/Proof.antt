@@ -1,9 +1,9 @@
 -- The tests in the order of the definition.
 use borrow.Author.Needs.{needs}
 use mathlib.Core.Path.{sym, _∙_}
-use Rattle.unitlines.specs.Arguments.{optionOrFile}
-use Rattle.unitlines.proofs.arguments.option_or_file.Statement.{statement}
-use Rattle.unitlines.proofs.arguments.option_or_file.Tie as tie
+use Rattle.command_line.specs.Argument.{optionOrFile}
+use Rattle.command_line.proofs.argument.option_or_file.Statement.{statement}
+use Rattle.command_line.proofs.argument.option_or_file.Tie as tie
 
 slice-aggregate-is : tie.Need-slice-aggregate-is
 slice-aggregate-is c = search needs
