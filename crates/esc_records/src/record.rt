@@ -127,7 +127,7 @@ fn flag_fits(fields: Fields) -> bool
     fields.first <= 1
 }
 
-// The record of its kind, each number at its type.
+// The record of its kind, each number at its type. It is long, since it is the one table of all kinds.
 fn record_of(fields: Fields) -> Record
     requires { ⌜ Narrow fields ⌝ }
     ensures { λ r. ⌜ ((s : List ℕ) → Whole s → Found s fields → r ≡ recordOf s) ⌝ }
