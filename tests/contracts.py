@@ -3,9 +3,9 @@
 
 Every public function has a comment that says what it is for. In a library it asks nothing by a `requires`, and
 states its result by an equation and what each lent buffer holds afterwards by another; only the capture search's
-choice is free. A crate that is a part of another is that one's alone: no third crate's code names it, and its functions
+choice is free. A crate that is a part of others is theirs alone: no further crate's code names it, and its functions
 may ask what each call of them proves. Every file of specs/ and proofs/ opens with a comment that says what it is or why
-it is true, and has no line of more than 160 characters.
+it is true, and has no line of more than 160 characters. What specs/ define, they define once: one word, one meaning.
 """
 import re
 import sys
@@ -13,11 +13,12 @@ from pathlib import Path
 
 CRATES = Path(__file__).resolve().parent.parent / "crates"
 CLAUSE = re.compile(r"^\s*ensures(?: \w+)? \{ λ (\w+)\. (.*) \}$", re.M)
+DEFINED = re.compile(r"^(?:unfoldable |abbrev )?pub (?:record |data )?(?!use |mod )([^\s:({]+)", re.M)
 WIDEST = 160
 # what a definition of specs/ says of the result where no equation could
 FREE = {"find_frame": "Searched", "esc_find_frame": "Searched"}
-# a crate that is a part of another
-PARTS = {"hex_lines": "unit_text"}
+# crates that are a part of others
+PARTS = {"hex_lines": ["record_lines", "unit_text"], "record_lines": ["unit_text"]}
 
 
 def functions(path):
@@ -58,11 +59,11 @@ def purposes(path):
 
 
 def strangers(path):
-    """Code that names a part of another crate."""
+    """Code that names a part of other crates."""
     crate = path.relative_to(CRATES).parts[0]
-    for part, whole in PARTS.items():
-        if crate not in (part, whole) and re.search(rf"\b{part}::", path.read_text()):
-            yield f"{path}: {part} is for {whole} alone"
+    for part, users in PARTS.items():
+        if crate not in [part, *users] and re.search(rf"\b{part}::", path.read_text()):
+            yield f"{path}: {part} is for {' and '.join(users)} alone"
 
 
 def layout(path):
@@ -73,11 +74,23 @@ def layout(path):
         yield f"{path}: a line of more than {WIDEST} characters"
 
 
+def meanings(paths):
+    """Words that two files define."""
+    places = {}
+    for path in paths:
+        for word in DEFINED.findall(path.read_text()):
+            places.setdefault(word, set()).add(path)
+    for word, files in places.items():
+        if len(files) > 1:
+            yield f"{word} is defined in {' and in '.join(map(str, sorted(files)))}"
+
+
 def main():
     libraries = [crate for crate in CRATES.iterdir() if crate.name not in PARTS and not (crate / "src/main.rt").exists()]
     faults = [fault for crate in libraries for path in crate.glob("src/**/*.rt") for fault in contracts(path)]
     faults += [fault for path in CRATES.glob("*/src/**/*.rt") for fault in [*purposes(path), *strangers(path)]]
     faults += [fault for path in CRATES.glob("*/*/**/*.antt") for fault in layout(path)]
+    faults += meanings(CRATES.glob("*/specs/**/*.antt"))
     for fault in sorted(faults):
         print(fault)
     sys.exit(1 if faults else 0)

@@ -1,6 +1,6 @@
--- Read in this order: a number that is stored; a frame's fields, then the parser over a stream, which stores the same fields;
+-- Read in this order: a lent number; a frame's fields, then the parser over a stream, which stores the same fields;
 -- the capture search; the board map.
-pub mod Stored
+pub mod Lent
 pub mod Frame
 pub mod Stream
 pub mod Capture

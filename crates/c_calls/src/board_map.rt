@@ -4,7 +4,7 @@ ghost use Rattle.base.specs.Reply.{numberOf};
 ghost use Rattle.airframe.specs.Motor.{motorRead};
 ghost use Rattle.airframe.specs.Lane.{outputRead};
 ghost use Rattle.airframe.specs.BoardMap.{mapRead};
-ghost use Rattle.c_calls.specs.Stored.{stored};
+ghost use Rattle.c_calls.specs.Lent.{lentAfter};
 ghost use Rattle.c_calls.specs.BoardMap.{together, numberOn, motorOfLane, laneWith, laneOfMotor, told};
 use airframe::BoardMap;
 use airframe::BoardMapRead;
@@ -23,7 +23,7 @@ enum Told {
 #[no_mangle]
 pub extern "C" fn esc_motor_of_lane(map: &[u8], lane: u8, motor: &mut u8) -> u8
     ensures { λ r. ⌜ r ≡ numberOf (motorOfLane (now (map .entry)) lane) ⌝ }
-    ensures { λ _. ⌜ now (motor .exit) ≡ stored (motorOfLane (now (map .entry)) lane) (now (motor .entry)) ⌝ }
+    ensures { λ _. ⌜ now (motor .exit) ≡ lentAfter (motorOfLane (now (map .entry)) lane) (now (motor .entry)) ⌝ }
 {
     store(
         motor_on(BoardMap::from_bytes(map), output_of_lane(lane)),
@@ -35,7 +35,7 @@ pub extern "C" fn esc_motor_of_lane(map: &[u8], lane: u8, motor: &mut u8) -> u8
 #[no_mangle]
 pub extern "C" fn esc_lane_of_motor(map: &[u8], motor: u8, lane: &mut u8) -> u8
     ensures { λ r. ⌜ r ≡ numberOf (laneOfMotor (now (map .entry)) motor) ⌝ }
-    ensures { λ _. ⌜ now (lane .exit) ≡ stored (laneOfMotor (now (map .entry)) motor) (now (lane .entry)) ⌝ }
+    ensures { λ _. ⌜ now (lane .exit) ≡ lentAfter (laneOfMotor (now (map .entry)) motor) (now (lane .entry)) ⌝ }
 {
     store(
         lane_with(BoardMap::from_bytes(map), Motor::from_byte(motor)),
@@ -78,7 +78,7 @@ fn lane_with(read: BoardMapRead, motor: MotorRead) -> Told
 
 fn store(answer: Told, to: &mut u8) -> u8
     ensures { λ r. ⌜ r ≡ numberOf (told answer) ⌝ }
-    ensures { λ _. ⌜ now (to .exit) ≡ stored (told answer) (now (to .entry)) ⌝ }
+    ensures { λ _. ⌜ now (to .exit) ≡ lentAfter (told answer) (now (to .entry)) ⌝ }
 {
     match answer {
         Told::Number(number) => {

@@ -4,7 +4,7 @@ ghost use lib.ListN.{length};
 ghost use Rattle.unit_text.specs.Session.{sessionText};
 ghost use Rattle.base.specs.Handed.{handedReply, handedOutput};
 ghost use Rattle.base.specs.Reply.{numberOf};
-ghost use Rattle.c_calls.specs.Stored.{stored};
+ghost use Rattle.c_calls.specs.Lent.{lentAfter};
 use base::Handed;
 use unit_text::session;
 
@@ -13,7 +13,7 @@ use unit_text::session;
 pub extern "C" fn esc_unit_session(text: &[u8], out: &mut [u8], count: &mut usize) -> u8
     ensures { λ r. ⌜ r ≡ numberOf (handedReply (sessionText (now (text .entry))) (length (now (out .entry)))) ⌝ }
     ensures { λ _. ⌜ now (out .exit) ≡ handedOutput (sessionText (now (text .entry))) (now (out .entry)) ⌝ }
-    ensures { λ _. ⌜ now (count .exit) ≡ stored (handedReply (sessionText (now (text .entry))) (length (now (out .entry)))) (now (count .entry)) ⌝ }
+    ensures { λ _. ⌜ now (count .exit) ≡ lentAfter (handedReply (sessionText (now (text .entry))) (length (now (out .entry)))) (now (count .entry)) ⌝ }
 {
     let told = session(text, out);
     match told {

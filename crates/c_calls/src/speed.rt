@@ -2,7 +2,7 @@
 ghost use mathlib.Core.Path.{_≡_};
 ghost use Rattle.base.specs.Reply.{numberOf};
 ghost use Rattle.airframe.specs.Speed.{speedOf};
-ghost use Rattle.c_calls.specs.Stored.{stored};
+ghost use Rattle.c_calls.specs.Lent.{lentAfter};
 use airframe::MotorSpeed;
 use airframe::motor_speed;
 
@@ -10,7 +10,7 @@ use airframe::motor_speed;
 #[no_mangle]
 pub extern "C" fn esc_motor_speed(erpm_div100: u16, magnets: u8, rpm: &mut u32) -> u8
     ensures { λ r. ⌜ r ≡ numberOf (speedOf «erpm_div100» magnets) ⌝ }
-    ensures { λ _. ⌜ now (rpm .exit) ≡ stored (speedOf «erpm_div100» magnets) (now (rpm .entry)) ⌝ }
+    ensures { λ _. ⌜ now (rpm .exit) ≡ lentAfter (speedOf «erpm_div100» magnets) (now (rpm .entry)) ⌝ }
 {
     let speed = motor_speed(erpm_div100, magnets);
     match speed {

@@ -34,7 +34,8 @@ use Rattle.esc_unit.specs.declared.unit.Unit.{Unit}
 use Rattle.esc_unit.proofs.StepLaws.{step-opens, step-next, step-mark, step-ack, step-poll, step-byte}
 use Rattle.esc_unit.proofs.UnitLaws.{call-admission}
 use Rattle.unit_text.specs.Session.{answerOn}
-use Rattle.unit_text.specs.Answering.{admittedBy, Answers}
+use Rattle.record_lines.specs.NextRecord.{admittedBy}
+use Rattle.unit_text.specs.Answering.{Answers}
 
 answer-admitted : (u : Unit) (l : Reply (List ℕ)) → answerOn u l ≡ onAdmitted u longestAnswer (admittedBy (u .opened) l)
 answer-admitted u (refused n) = refl

@@ -19,7 +19,7 @@ use Rattle.unit_text.specs.Session.{answerOn, answerLine, unitAfter, lin
 use Rattle.unit_text.specs.Stream.{Streamed, after, printed, taken, feedOf, fedOutput, longestLine}
 use Rattle.hex_lines.specs.NextLine.{firstLine, BufferHolds}
 use Rattle.unit_text.specs.Answering.{Answers, PrintedAt}
-use Rattle.unit_text.specs.NextRecord.{RecordEnded}
+use Rattle.record_lines.specs.NextRecord.{RecordEnded}
 use Rattle.base.proofs.PutLaws.{overwrite-none}
 use Rattle.hex_lines.proofs.Unended.{Unended}
 use Rattle.hex_lines.proofs.FirstLine.{first-unended, first-split}

@@ -1,11 +1,10 @@
--- Read in this order: the session, in pieces too (to SessionLaws); then the code's way: a wire byte's line (WireRead), a line's answer,
+-- Read in this order: the session, in pieces too (to SessionLaws); then the code's way: a line's answer,
 -- the loop over a chunk, the end, a whole text.
 pub mod LinesLaws
 pub mod HeldAnswer
 pub mod AnswerLength
 pub mod StreamLaws
 pub mod SessionLaws
-pub mod WireRead
 pub mod AnswersLaws
 pub mod LineTurn
 pub mod Feeding

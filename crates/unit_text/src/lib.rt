@@ -2,10 +2,8 @@
 // hexadecimal on a line for each.
 mod answer;
 mod hand;
-mod next_record;
 mod stream;
 mod whole_session;
-mod wire_line;
 
 pub use stream::Fed;
 pub use stream::LONGEST_LINE;

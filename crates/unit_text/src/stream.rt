@@ -10,11 +10,6 @@ ghost use Rattle.hex_lines.specs.Line.{mostHeld};
 use crate::answer::print_flag;
 use crate::answer::print_refusal;
 use crate::answer::print_text;
-use crate::next_record::NextRecord;
-use crate::next_record::next_record;
-use crate::wire_line::WIRE_LINE;
-use crate::wire_line::WireLine;
-use crate::wire_line::collected_byte;
 use base::Handed;
 use base::hand;
 use esc_answers::Delivered;
@@ -31,6 +26,11 @@ use hex_lines::digit::digits;
 use hex_lines::line::LINE_END;
 use hex_lines::line::LONGEST_RECORD;
 use hex_lines::next_line::HELD;
+use record_lines::next_record::NextRecord;
+use record_lines::next_record::next_record;
+use record_lines::wire_line::WIRE_LINE;
+use record_lines::wire_line::WireLine;
+use record_lines::wire_line::collected_byte;
 
 // As much as any printed line takes.
 pub const LONGEST_LINE: usize = 87;

@@ -1,4 +1,4 @@
--- Map and motor are read, converted, and the number stored.
+-- Map and motor are read, converted, and the result told.
 use borrow.Author.Needs.{needs}
 use Rattle.c_calls.proofs.board_map.esc_lane_of_motor.Statement.{statement}
 use Rattle.c_calls.proofs.board_map.esc_lane_of_motor.Tie as tie

@@ -1,4 +1,4 @@
--- Map and lane are read, converted, and the number stored.
+-- Map and lane are read, converted, and the result told.
 use borrow.Author.Needs.{needs}
 use Rattle.c_calls.proofs.board_map.esc_motor_of_lane.Statement.{statement}
 use Rattle.c_calls.proofs.board_map.esc_motor_of_lane.Tie as tie

@@ -1,4 +1,4 @@
--- The number and what is stored are those of `motor_speed`.
+-- The number and the speed are those of `motor_speed`.
 use borrow.Author.Needs.{needs}
 use mathlib.Core.Path.{refl}
 use Rattle.c_calls.proofs.speed.esc_motor_speed.Statement.{statement}

@@ -13,11 +13,10 @@ use Rattle.esc_answers.proofs.AnswerLaws.{answer-fits, delivered-fits}
 use Rattle.esc_unit.specs.declared.unit.Unit.{Unit}
 use Rattle.hex_lines.specs.Line.{readLine, longestRecord}
 use Rattle.hex_lines.specs.NextLine.{firstLine}
-use Rattle.unit_text.specs.NextRecord.{RecordEnded, NextRecordFrom}
-use Rattle.unit_text.specs.Answering.{admittedBy}
+use Rattle.record_lines.specs.NextRecord.{admittedBy, RecordEnded, NextRecordFrom}
+use Rattle.record_lines.specs.WireLine.{CollectedAt}
+use Rattle.record_lines.specs.declared.next_record.NextRecord.{NextRecord}
 use Rattle.unit_text.specs.Stream.{longestLine}
-use Rattle.unit_text.specs.WireLine.{CollectedAt}
-use Rattle.unit_text.specs.declared.next_record.NextRecord.{NextRecord}
 use Rattle.unit_text.proofs.AnswersLaws.{
   answers-refused,
   answers-step,

@@ -18,10 +18,10 @@ use Rattle.esc_records.proofs.AdmissionLaws.{admitted-read}
 use Rattle.hex_lines.specs.Digit.{digitOf, pairOf}
 use Rattle.hex_lines.specs.Line.{lineEnd, allDigits, pairs}
 use Rattle.hex_lines.specs.NextLine.{firstLine}
-use Rattle.unit_text.specs.Answering.{admittedBy}
-use Rattle.unit_text.specs.WireLine.{WireFrom, CollectedFrom}
-use Rattle.unit_text.specs.declared.wire_line.WireLine.{WireLine}
-use Rattle.unit_text.specs.declared.wire_line.WireLine.the-variants as wire
+use Rattle.record_lines.specs.NextRecord.{admittedBy}
+use Rattle.record_lines.specs.WireLine.{WireFrom, CollectedFrom}
+use Rattle.record_lines.specs.declared.wire_line.WireLine.{WireLine}
+use Rattle.record_lines.specs.declared.wire_line.WireLine.the-variants as wire
 use Rattle.hex_lines.proofs.FirstLine.{first-ended}
 use Rattle.hex_lines.proofs.LineLaws.{read-whole}
 use Rattle.hex_lines.proofs.PairsLaws.{pair-read, unended-digits, digits-more, pairs-length, pairs-at}

@@ -4,8 +4,8 @@ use mathlib.Core.Path.{sym, ap}
 use lib.Seq.{length-take-le}
 use Rattle.hex_lines.specs.Line.{recordLength}
 use borrow.Author.Needs.{needs}
-use Rattle.unit_text.proofs.next_record.admit_line.Statement.{statement}
-use Rattle.unit_text.proofs.next_record.admit_line.Tie as tie
+use Rattle.record_lines.proofs.next_record.admit_line.Statement.{statement}
+use Rattle.record_lines.proofs.next_record.admit_line.Tie as tie
 
 enum-known-read : tie.Need-enum-known-read
 enum-known-read c = search needs

@@ -10,9 +10,9 @@ use Rattle.blheli_telemetry.specs.declared.parser.StreamParser.{StreamParser}
 use Rattle.esc_records.specs.declared.record.Record.the-variants as kind
 use Rattle.hex_lines.specs.Line.{readLine}
 use Rattle.hex_lines.specs.NextLine.{firstLine}
-use Rattle.unit_text.specs.Answering.{admittedBy}
-use Rattle.unit_text.specs.declared.wire_line.WireLine.{WireLine}
-use Rattle.unit_text.specs.declared.wire_line.WireLine.the-variants as wire
+use Rattle.record_lines.specs.NextRecord.{admittedBy}
+use Rattle.record_lines.specs.declared.wire_line.WireLine.{WireLine}
+use Rattle.record_lines.specs.declared.wire_line.WireLine.the-variants as wire
 
 -- LF ends the first line of the chunk behind 20 characters, and an opened unit takes its record
 pub record WireAt (chunk : List ℕ) (x t : ℕ) : Type 0 where

@@ -4,8 +4,8 @@ ghost use Prim.Native.Nat.{_≤_};
 ghost use lib.ListN.{length, take};
 ghost use Rattle.hex_lines.specs.Digit.{DigitTabled};
 ghost use Rattle.hex_lines.specs.Line.{longestRecord, mostHeld, lineRead, recordLength};
-ghost use Rattle.unit_text.specs.Answering.{admittedBy};
-ghost use Rattle.unit_text.specs.NextRecord.{NextRecordFrom};
+ghost use Rattle.record_lines.specs.NextRecord.{admittedBy};
+ghost use Rattle.record_lines.specs.NextRecord.{NextRecordFrom};
 ghost use Rattle.esc_records.specs.Record.{recordRead};
 use esc_records::Record;
 use esc_records::RecordRead;
@@ -14,7 +14,7 @@ use hex_lines::line::LineRead;
 use hex_lines::next_line::NextLine;
 use hex_lines::next_line::next_line;
 
-pub(crate) enum NextRecord {
+pub enum NextRecord {
     // The chunk ends before the line does; so many characters are held.
     Open(usize),
     // The number of the refusal, and the place behind the line.
@@ -25,7 +25,7 @@ pub(crate) enum NextRecord {
 
 // Reads the line that begins with the `held` characters of `line` and goes on in the chunk, and its record as a unit that was
 // opened, or was not, takes it.
-pub(crate) fn next_record(
+pub fn next_record(
     digits: &[u8; 256],
     chunk: &[u8],
     line: &mut [u8],

@@ -5,12 +5,17 @@ use mathlib.Core.Bool.{Bool}
 use mathlib.Core.List.{List, _++_}
 use lib.ListN.{length}
 use Rattle.base.specs.Reply.{Reply, accepted, refused}
+use Rattle.esc_records.specs.Admission.{admittedOf}
 use Rattle.esc_records.specs.declared.record.Record as declared
 use Rattle.hex_lines.specs.Line.{readLine, mostHeld}
 use Rattle.hex_lines.specs.NextLine.{firstLine, BufferHolds}
-use Rattle.unit_text.specs.Answering.{admittedBy}
-use Rattle.unit_text.specs.declared.next_record.NextRecord.{NextRecord}
-use Rattle.unit_text.specs.declared.next_record.NextRecord.the-variants.{Open, Refused, Record}
+use Rattle.record_lines.specs.declared.next_record.NextRecord.{NextRecord}
+use Rattle.record_lines.specs.declared.next_record.NextRecord.the-variants.{Open, Refused, Record}
+
+-- 1 to 3 by the line, 4 to 8 by the record and whether the unit was opened
+abbrev pub admittedBy : Bool → Reply (List ℕ) → Reply declared.Record
+admittedBy opened (refused n) = refused n
+admittedBy opened (accepted record-bytes) = admittedOf opened record-bytes
 
 -- LF ends the line within the chunk, and this is what comes of its record
 pub record RecordEnded (opened : Bool) (begun chunk : List ℕ) (admission : Reply declared.Record) (next : ℕ) (line : List ℕ) : Type 0 where

@@ -1,10 +1,10 @@
 -- Each test is one of the conditions; the line itself is the other function's.
 use mathlib.Core.Path.{sym, _∙_}
 use borrow.Author.Tests.{not-false}
-use Rattle.unit_text.proofs.WireRead.{collected-wire}
+use Rattle.record_lines.proofs.WireRead.{collected-wire}
 use borrow.Author.Needs.{needs}
-use Rattle.unit_text.proofs.wire_line.collected_byte.Statement.{statement}
-use Rattle.unit_text.proofs.wire_line.collected_byte.Tie as tie
+use Rattle.record_lines.proofs.wire_line.collected_byte.Statement.{statement}
+use Rattle.record_lines.proofs.wire_line.collected_byte.Tie as tie
 
 returns : tie.Need-returns
 returns c = search needs

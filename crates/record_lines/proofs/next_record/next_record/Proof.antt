@@ -5,11 +5,11 @@ use denote.Ref.{now}
 use lib.ListN.{take}
 use Rattle.esc_records.specs.Record.{recordRead}
 use Rattle.hex_lines.specs.NextLine.{NextFrom}
-use Rattle.unit_text.specs.Answering.{admittedBy}
+use Rattle.record_lines.specs.NextRecord.{admittedBy}
 use Rattle.hex_lines.specs.declared.next_line.NextLine.the-variants.{Ended}
 use borrow.Author.Needs.{needs}
-use Rattle.unit_text.proofs.next_record.next_record.Statement.{statement}
-use Rattle.unit_text.proofs.next_record.next_record.Tie as tie
+use Rattle.record_lines.proofs.next_record.next_record.Statement.{statement}
+use Rattle.record_lines.proofs.next_record.next_record.Tie as tie
 
 -- LF ends the line
 ended : (c : tie.After-known-told2)

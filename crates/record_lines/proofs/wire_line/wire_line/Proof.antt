@@ -3,9 +3,9 @@ use borrow.Author.Needs.{needs}
 use native.Mathlib.Omega.{arith}
 use Prim.Native.Nat.{_-_}
 use Rattle.base.proofs.NumberLaws.{seven-fit}
-use Rattle.unit_text.proofs.WireRead.{Timed, timed-none, timed-more, timed-all}
-use Rattle.unit_text.proofs.wire_line.wire_line.Statement.{statement}
-use Rattle.unit_text.proofs.wire_line.wire_line.Tie as tie
+use Rattle.record_lines.proofs.WireRead.{Timed, timed-none, timed-more, timed-all}
+use Rattle.record_lines.proofs.wire_line.wire_line.Statement.{statement}
+use Rattle.record_lines.proofs.wire_line.wire_line.Tie as tie
 
 abbrev Inv-loop : tie.InvT-loop
 Inv-loop digits chunk byte at-ms₀ read₀ at-ms read = Timed chunk at-ms read

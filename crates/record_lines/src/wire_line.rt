@@ -1,15 +1,15 @@
 // A line with a wire byte, as most lines of a session are: it is read straight into its numbers.
 ghost use Rattle.hex_lines.specs.Digit.{DigitTabled};
-ghost use Rattle.unit_text.specs.WireLine.{WireFrom, CollectedFrom};
+ghost use Rattle.record_lines.specs.WireLine.{WireFrom, CollectedFrom};
 use blheli_telemetry::StreamParser;
 use hex_lines::line::LINE_END;
 use hex_lines::pair::NO_BYTE;
 use hex_lines::pair::pair;
 
 // How many characters it has: two of the kind, two of the byte, sixteen of the time.
-pub(crate) const WIRE_LINE: usize = 20;
+pub const WIRE_LINE: usize = 20;
 
-pub(crate) enum WireLine {
+pub enum WireLine {
     // The byte, and its time.
     Byte(u8, u64),
     // Another line, or one that is read by way of its record.
@@ -18,7 +18,7 @@ pub(crate) enum WireLine {
 
 // The byte at the front of a chunk, where it is a line of its own and the parser of an opened unit only
 // collects it: it then moves nothing but the parser and the fault's quiet time.
-pub(crate) fn collected_byte(
+pub fn collected_byte(
     digits: &[u8; 256],
     chunk: &[u8],
     held: usize,
