@@ -1,5 +1,5 @@
 -- Read in this order: counting bytes; motors by their numbers; a map that was read; its two conversions, from values and from bytes;
--- document 01's cases of speed.
+-- maps refused, and document 01's cases of speed.
 pub mod OnceLaws
 pub mod EachOnceLaws
 pub mod MotorLaws

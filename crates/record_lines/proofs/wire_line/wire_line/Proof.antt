@@ -49,8 +49,9 @@ returns-5 c = search needs
 loop-holds : tie.Need-loop-holds Inv-loop μ-loop
 loop-holds c =
     let byte = c .before .pair in
+    let chunk = c .before .before .before .before .before .before .before .before .before .before .before .before .args .chunk .now in
     let long = c .before .before .before .before .before .before .before .before .before .before .if1 .left in
-    timed-none _ long (c .before .before .before .before .before .before .if3 .left) (c .before .before .before .before .if4 .left) (byte .result)
+    timed-none chunk long (c .before .before .before .before .before .before .if3 .left) (c .before .before .before .before .if4 .left) (byte .result)
     (byte .ensures) (c .if5 .left)
 
 mul-place : tie.Need-mul-place Inv-loop μ-loop
