@@ -37,7 +37,8 @@ use Rattle.esc_answers.specs.Answer.{
   bodyBytes,
   answerBytes,
 }
-use Rattle.esc_unit.specs.Unit.{stepOf, enter, callOf}
+use Rattle.esc_kinds.specs.Step.{stepOf}
+use Rattle.esc_unit.specs.Unit.{enter, callOf}
 use Rattle.booking.specs.History.{since, Call}
 use Rattle.booking.specs.Wire.{OnWire, byte, cut, wire}
 use Rattle.booking.specs.Run.{feed, run}

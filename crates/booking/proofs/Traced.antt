@@ -10,7 +10,8 @@ use Rattle.base.specs.Choice.{pick}
 use Rattle.base.specs.Reply.{Reply, accepted, refused}
 use Rattle.esc_records.specs.Record.{readRecord}
 use Rattle.esc_answers.specs.Answer.{answerBytes}
-use Rattle.esc_unit.specs.Unit.{neverOpened, stepOf, Replied, refusing, enter, ifRoom, callOn, callOf}
+use Rattle.esc_kinds.specs.Step.{stepOf}
+use Rattle.esc_unit.specs.Unit.{neverOpened, Replied, refusing, enter, ifRoom, callOn, callOf}
 use Rattle.esc_records.specs.Admission.{opens}
 use Rattle.esc_records.specs.declared.record.Record.{Record}
 use Rattle.esc_records.specs.declared.record.Record.the-variants as kind

@@ -15,7 +15,8 @@ use Rattle.esc_feedback.specs.declared.answer.EscManagerTimeout.{EscManagerTime
 use Rattle.esc_feedback.specs.declared.answer.EscManagerTimeout.the-variants as timeout
 use Rattle.esc_feedback.specs.declared.manager.EscManager.{EscManager}
 use Rattle.esc_books.specs.Books.{noBooks, bookedIn, idleStatus}
-use Rattle.esc_unit.specs.Unit.{unitOf, stepped, ackedOn, wireStepped, recoveredOn, reportOf, stepOf}
+use Rattle.esc_kinds.specs.Step.{stepped, ackedOn, wireStepped, recoveredOn, reportOf, stepOf}
+use Rattle.esc_unit.specs.Unit.{unitOf}
 use Rattle.esc_records.specs.Admission.{opens}
 use Rattle.esc_records.specs.declared.record.Record.{Record}
 use Rattle.esc_records.specs.declared.record.Record.the-variants as kind
@@ -26,7 +27,7 @@ use Rattle.esc_answers.specs.declared.answer.Answer.{Answer}
 use Rattle.esc_answers.specs.declared.answer.Answer.the-variants as answer
 use Rattle.esc_books.specs.declared.books.Books.{Books}
 use Rattle.esc_unit.specs.declared.unit.Unit.{Unit}
-use Rattle.esc_unit.specs.declared.kinds.Stepped.{Stepped}
+use Rattle.esc_kinds.specs.declared.kinds.Stepped.{Stepped}
 use Rattle.base.specs.Maybe.{is, orElse, onlyIf}
 use Rattle.booking.specs.History.{Opening, Timed, Wire, Idle, Seen, seen, Past}
 use Rattle.booking.specs.Wire.{Frame}
@@ -72,7 +73,7 @@ pub record UnitAt (o : Opening) (h : Past) (u : Unit) : Type 0 where
 
 pub record StepOk (o : Opening) (h : Past) (r : Record) (a : Answer) (s : Stepped) : Type 0 where
   pub answers : s .answer ≡ a
-  pub unit : UnitAt o (seen r (s .answer) ∷ h) (s .unit)
+  pub unit : UnitAt o (seen r (s .answer) ∷ h) (unitOf (s .manager) (s .books))
 
 calm-by : (d t r f : Bool) (x : Option Timed) → pick t true (pick r false f) ≡ true → (f ≡ true → x ≡ none) → pick (d || t) none (orElse none x) ≡ none
 calm-by true t r f x k g = refl

@@ -9,13 +9,13 @@ use Rattle.base.specs.Choice.{pick}
 use Rattle.base.specs.BigEndian.{overwrite}
 use Rattle.base.specs.Reply.{Reply, accepted, refused, isAccepted}
 use Rattle.esc_answers.specs.Answer.{answerBytes}
-use Rattle.esc_unit.specs.Unit.{Replied, refusing, accepting, outputAfter, lengthOf}
+use Rattle.esc_unit.specs.Unit.{Replied, unitOf, refusing, accepting, outputAfter, lengthOf}
 use Rattle.esc_unit.specs.Admission.{roomed}
 use Rattle.base.specs.Handed.{handedReply, handedOutput}
 use Rattle.esc_unit.specs.Replies.{callReply}
 use Rattle.esc_answers.specs.declared.answer.Answer.{Answer}
 use Rattle.esc_unit.specs.declared.unit.Unit.{Unit}
-use Rattle.esc_unit.specs.declared.kinds.Stepped.{Stepped}
+use Rattle.esc_kinds.specs.declared.kinds.Stepped.{Stepped}
 use Rattle.esc_unit.specs.declared.unit.call.CallReply.the-variants as call
 use Rattle.esc_unit.specs.declared.unit.call.Called.{Called}
 
@@ -53,7 +53,7 @@ module _ (u : Unit) (before after : List ℕ) where
         meets-refusal 9 c _ ec (ap (λ (b : Bool). pick b (accepting s) (refusing u 9)) l)
         (o ∙ ap (λ (b : Bool). pick b (overwrite 0 (answerBytes (s .answer)) before) before) l)
 
-    pub meets-answer : (v : Unit) (n : ℕ) → v ≡ s .unit → accepted n ≡ handedReply (answerBytes (s .answer)) (length before)
+    pub meets-answer : (v : Unit) (n : ℕ) → v ≡ unitOf (s .manager) (s .books) → accepted n ≡ handedReply (answerBytes (s .answer)) (length before)
         → Meets (record { unit = v; reply = call.Written n }) before after (roomed u (length before) s)
     unfolding handedReply handedOutput outputAfter
     meets-answer v n eu w =

@@ -1,4 +1,3 @@
--- Read in this order: a law for each kind whose answer decides what becomes of the books; each way of a call, and what its code hands back.
-pub mod StepLaws
+-- Read in this order: each way of a call; what its code hands back.
 pub mod UnitLaws
 pub mod CallLaws

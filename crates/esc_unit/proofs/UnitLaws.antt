@@ -9,14 +9,15 @@ use Rattle.base.specs.Choice.{pick}
 use Rattle.base.specs.Reply.{Reply, accepted, refused, isAccepted}
 use Rattle.esc_records.specs.Record.{readRecord}
 use Rattle.esc_answers.specs.Answer.{answerBytes}
-use Rattle.esc_unit.specs.Unit.{Replied, stepOf, refusing, accepting, enter, ifRoom, callOn, callOf, outputAfter}
+use Rattle.esc_kinds.specs.Step.{stepOf}
+use Rattle.esc_unit.specs.Unit.{Replied, refusing, accepting, enter, ifRoom, callOn, callOf, outputAfter}
 use Rattle.esc_records.specs.Admission.{opens}
 use Rattle.esc_records.specs.declared.record.Record.{Record}
 use Rattle.esc_answers.specs.declared.answer.Answer.{Answer}
 use Rattle.esc_unit.specs.Admission.{onAdmitted}
 use Rattle.esc_records.specs.Admission.{admittedOn, admittedOf}
 use Rattle.esc_unit.specs.declared.unit.Unit.{Unit}
-use Rattle.esc_unit.specs.declared.kinds.Stepped.{Stepped}
+use Rattle.esc_kinds.specs.declared.kinds.Stepped.{Stepped}
 
 -- one of two tests is enough
 either : (a b c : Bool) (x y : Replied) → a || b ≡ c → pick a x (pick b x y) ≡ pick c x y

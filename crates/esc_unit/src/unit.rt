@@ -4,13 +4,13 @@ mod call;
 pub use call::CallReply;
 pub use call::Called;
 ghost use mathlib.Core.Path.{_≡_};
-ghost use Rattle.esc_unit.specs.Unit.{neverOpened, enter};
+ghost use Rattle.esc_unit.specs.Unit.{neverOpened, unitOf, enter};
 ghost use Rattle.esc_unit.specs.Replies.{stepReplied};
-use crate::kinds::step;
 use esc_answers::Answer;
 use esc_books::Books;
 use esc_feedback::EscManager;
 use esc_feedback::EscManagerConfig;
+use esc_kinds::step;
 use esc_records::Record;
 use esc_records::takes;
 
@@ -65,11 +65,22 @@ impl Unit {
             };
         }
         let stepped = step(self.manager, self.books, record);
-        let unit = stepped.unit;
+        let unit = opened_unit(stepped.manager, stepped.books);
         let answer = stepped.answer;
         UnitStepped {
             unit,
             reply: StepReply::Answer(answer),
         }
+    }
+}
+
+// The unit once its first 00 was taken.
+pub(crate) fn opened_unit(manager: EscManager, books: Books) -> Unit
+    ensures { λ r. ⌜ r ≡ unitOf manager books ⌝ }
+{
+    Unit {
+        opened: true,
+        manager,
+        books,
     }
 }

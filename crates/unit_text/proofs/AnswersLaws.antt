@@ -28,10 +28,11 @@ use Rattle.esc_records.specs.declared.record.Record.{Record}
 use Rattle.esc_records.specs.declared.record.Record.the-variants as kind
 use Rattle.esc_answers.proofs.AnswerLaws.{answer-at-most, decided-bytes, rejected-bytes, accepted-bytes, ack-sample-bytes, no-wire-bytes, wire-sample-bytes}
 use Rattle.esc_unit.specs.Admission.{onAdmitted}
-use Rattle.esc_unit.specs.Unit.{Replied, unitOf, stepOf, refusing, accepting}
-use Rattle.esc_unit.specs.declared.kinds.Stepped.{Stepped}
+use Rattle.esc_kinds.specs.Step.{stepOf}
+use Rattle.esc_unit.specs.Unit.{Replied, unitOf, refusing, accepting}
+use Rattle.esc_kinds.specs.declared.kinds.Stepped.{Stepped}
 use Rattle.esc_unit.specs.declared.unit.Unit.{Unit}
-use Rattle.esc_unit.proofs.StepLaws.{step-opens, step-next, step-mark, step-ack, step-poll, step-byte}
+use Rattle.esc_kinds.proofs.StepLaws.{step-next, step-mark, step-ack, step-poll, step-byte}
 use Rattle.esc_unit.proofs.UnitLaws.{call-admission}
 use Rattle.unit_text.specs.Session.{answerOn}
 use Rattle.record_lines.specs.NextRecord.{admittedBy}
@@ -48,11 +49,11 @@ module _ (u : Unit) (l : Reply (List ℕ)) where
       let by : answerOn u l ≡ refusing u n = answer-admitted u l ∙ ap (onAdmitted u longestAnswer) e in
       record { unit = sym (ap (λ (k : Replied). k .unit) by); bytes = sym (ap (λ (k : Replied). replyBytes (k .reply)) by) }
 
-  -- a record of any kind
-  answers-stepped : (r : Record) (s : Stepped) → admittedBy (u .opened) l ≡ accepted r → stepOf (u .manager) (u .books) r ≡ s
-      → Answers u l (s .unit) (answerBytes (s .answer))
+  -- a record of any kind: the unit is open afterwards
+  pub answers-step : (r : Record) (s : Stepped) → admittedBy (u .opened) l ≡ accepted r → stepOf (u .manager) (u .books) r ≡ s
+      → Answers u l (unitOf (s .manager) (s .books)) (answerBytes (s .answer))
   unfolding replyBytes
-  answers-stepped r s e q =
+  answers-step r s e q =
       let by : answerOn u l ≡ accepting s =
       answer-admitted u l
       ∙ ap (onAdmitted u longestAnswer) e
@@ -60,26 +61,15 @@ module _ (u : Unit) (l : Reply (List ℕ)) where
       ∙ ap (λ (b : Bool). pick b (accepting s) (refusing u 9)) (le-leb (length (answerBytes (s .answer))) longestAnswer (answer-at-most (s .answer))) in
       record { unit = sym (ap (λ (k : Replied). k .unit) by); bytes = sym (ap (λ (k : Replied). replyBytes (k .reply)) by) }
 
-  -- the unit is open afterwards
-  pub answers-step : (r : Record) (s : Stepped) → admittedBy (u .opened) l ≡ accepted r → s ≡ stepOf (u .manager) (u .books) r
-      → Answers u l (unitOf (s .unit .manager) (s .unit .books)) (answerBytes (s .answer))
-  answers-step r s e q =
-      let k = answers-stepped r s e (sym q) in
-      let opened : s .unit .opened ≡ true = ap (λ (x : Stepped). x .unit .opened) q ∙ step-opens (u .manager) (u .books) r in
-      record {
-        unit = ap (λ (b : Bool). record { opened = b; manager = s .unit .manager; books = s .unit .books }) (sym opened) ∙ k .unit;
-        bytes = k .bytes;
-      }
-
   -- the same where what is printed is known by another name
   answers-said : (r : Record) (s : Stepped) (said : List ℕ) → admittedBy (u .opened) l ≡ accepted r → stepOf (u .manager) (u .books) r ≡ s
-      → said ≡ answerBytes (s .answer) → Answers u l (s .unit) said
-  answers-said r s said e q b = let k = answers-stepped r s e q in record { unit = k .unit; bytes = b ∙ k .bytes }
+      → said ≡ answerBytes (s .answer) → Answers u l (unitOf (s .manager) (s .books)) said
+  answers-said r s said e q b = let k = answers-step r s e q in record { unit = k .unit; bytes = b ∙ k .bytes }
 
   -- 01
   pub answers-next : (t : ℕ) → admittedBy (u .opened) l ≡ accepted (kind.NextRequest t)
       → Answers u l (unitOf (u .manager) (u .books)) (answerBytes (answer.Request (nextRequest (u .manager) t)))
-  answers-next t e = answers-stepped _ _ e (step-next (u .manager) (u .books) t)
+  answers-next t e = answers-step _ _ e (step-next (u .manager) (u .books) t)
 
   -- 02
   pub answers-marked : (q : EscActuatorRequest) (t : ℕ) → admittedBy (u .opened) l ≡ accepted (kind.MarkRequestQueued q t)
@@ -104,7 +94,7 @@ module _ (u : Unit) (l : Reply (List ℕ)) where
   -- 04
   pub answers-polled : (t : ℕ) → admittedBy (u .opened) l ≡ accepted (kind.PollTimeout t)
       → Answers u l (unitOf (pollTimeout (u .manager) t .manager) (u .books)) (answerBytes (answer.Timeout (pollTimeout (u .manager) t .answer)))
-  answers-polled t e = answers-stepped _ _ e (step-poll (u .manager) (u .books) t)
+  answers-polled t e = answers-step _ _ e (step-poll (u .manager) (u .books) t)
 
   -- 05: a sample or none
   module _ (x t : ℕ) (e : admittedBy (u .opened) l ≡ accepted (kind.WireByte x t)) where

@@ -19,9 +19,9 @@ use esc_answers::next_text;
 use esc_answers::timeout_text;
 use esc_feedback::EscAckOutcome;
 use esc_feedback::WireUpdate;
+use esc_kinds::step;
 use esc_records::Record;
 use esc_unit::Unit;
-use esc_unit::step;
 use hex_lines::digit::digits;
 use hex_lines::line::LINE_END;
 use hex_lines::line::LONGEST_RECORD;
@@ -171,8 +171,8 @@ impl Stream {
                         // Any other kind goes by the unit's step.
                         _ => {
                             let stepped = step(manager, books, record);
-                            manager = stepped.unit.manager;
-                            books = stepped.unit.books;
+                            manager = stepped.manager;
+                            books = stepped.books;
                             let answer = stepped.answer;
                             written = print_text(answer_text(answer), out, written);
                         }

@@ -5,10 +5,11 @@ ghost use Rattle.base.specs.Reply.{accepted};
 ghost use Rattle.esc_unit.specs.Unit.{callOf, outputAfter, lengthOf};
 ghost use Rattle.esc_unit.specs.Admission.{onAdmitted};
 ghost use Rattle.esc_unit.specs.Replies.{callReply};
-use crate::kinds::step;
 use crate::unit::Unit;
+use crate::unit::opened_unit;
 use base::Handed;
 use esc_answers::write_answer;
+use esc_kinds::step;
 use esc_records::Record;
 use esc_records::RecordRead;
 use esc_records::admit;
@@ -46,12 +47,12 @@ impl Unit {
         ensures { λ _. ⌜ now (out .exit) ≡ outputAfter (onAdmitted self (length (now (out .entry))) (accepted «record») .reply) (now (out .entry)) ⌝ }
     {
         let stepped = step(self.manager, self.books, record);
+        let unit = opened_unit(stepped.manager, stepped.books);
         let answer = stepped.answer;
         let written = write_answer(answer, out);
         let Handed::Written(count) = written else {
             return self.refused(9);
         };
-        let unit = stepped.unit;
         Called {
             unit,
             reply: CallReply::Written(count),

@@ -15,10 +15,13 @@ returns c = sym (enter-refused _ _ (sym (c .before .takes .ensures) ∙ not-true
 step-requires : tie.Need-step-requires
 step-requires c κs = search needs
 
+opened-unit-requires : tie.Need-opened-unit-requires
+opened-unit-requires c κs = search needs
+
 returns-2 : tie.Need-returns-2
 returns-2 c =
-    rw (c .before .step .ensures)
+    rw (c .opened-unit .ensures, c .before .step .ensures)
     (sym (enter-accepted _ _ (sym (c .before .before .before .takes .ensures) ∙ not-false _ (c .before .before .if1 .left))))
 
 pub step-spec : {M : Type 1} → statement M
-step-spec = tie.close (tie.spec takes-requires returns step-requires returns-2)
+step-spec = tie.close (tie.spec takes-requires returns step-requires opened-unit-requires returns-2)

@@ -1,7 +1,7 @@
 -- Every turn answers the next line of the chunk, in place where a byte is only collected; each kind of a flight by its own law.
 use borrow.Author.Needs.{needs}
 use native.Mathlib.Omega.{arith}
-use mathlib.Core.Path.{_≡_, ap, _∙_}
+use mathlib.Core.Path.{_≡_, sym, ap, _∙_}
 use mathlib.Core.Bool.{Bool}
 use mathlib.Core.List.{List, _++_}
 use Prim.Native.Nat.{ℕ, _+_, _-_, _≤_, _<_}
@@ -529,7 +529,7 @@ loop-again-12 c =
     let b = t .before .before .before in
     let l = turn b .before .before .loop in
     (feeding-record (l .inv) (roomy (turn b)) (taken t)
-    (answers-step (was (turn b)) (heard (turn b)) _ _ (taken t .admitted) (c .before .before .before .before .before .before .before .step .ensures))
+    (answers-step (was (turn b)) (heard (turn b)) _ _ (taken t .admitted) (sym (c .before .before .before .before .before .before .before .step .ensures)))
     (rw (c .before .before .before .before .answer-text .ensures .1) at (c .before .before .print-text5 .ensures))
     (c .before .before .print-text5 .kept .1 .0) (bytes-room b))
 

@@ -1,0 +1,2 @@
+-- A clause for each kind.
+pub mod Step
