@@ -1,4 +1,4 @@
--- What only a delivered sample and the kinds 0a to 0e touch: stored samples, at most one idle check, figures (document 01).
+-- What only an opening, a delivered sample, a recovery and the kinds 0a, 0b, 0d and 0e touch: stored samples, at most one idle check, figures.
 use Prim.Native.Nat.{ℕ}
 use mathlib.Core.Bool.{Bool, true, false}
 use Rattle.base.specs.Choice.{pick}

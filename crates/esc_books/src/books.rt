@@ -1,5 +1,5 @@
-// What only a delivered sample and the kinds 0a to 0e touch: stored samples, at most one idle check,
-// figures. It stands beside the manager, so that the calls of the wire do not move it.
+// What only an opening, a delivered sample, a recovery and the kinds 0a, 0b, 0d and 0e touch: stored samples, at
+// most one idle check, figures. It stands beside the manager, so that the calls of the wire do not move it.
 ghost use mathlib.Core.Path.{_≡_};
 ghost use Rattle.esc_books.specs.Figures.{figureAt};
 ghost use Rattle.esc_books.specs.Books.{noBooks, checkedBy, samplesDropped, booksJudged, bookedIn, idleStatus, storedAt};

@@ -1,5 +1,6 @@
-// Telemetry requests, their acknowledgements and the frames that answer them: a port of
-// ferrowasp-feedback's esc_manager.rs. No public function has a `requires`.
+// Telemetry requests, their acknowledgements and the frames that answer them: a port of the manager in
+// ferrowasp-feedback's esc_manager.rs. Its lanes and requests are in `esc_lanes`, its fault in `esc_fault`, its idle
+// check in `esc_idle`. No public function has a `requires`.
 mod answer;
 mod config;
 mod manager;

@@ -1,2 +1,2 @@
--- A law for each kind that a caller meets one by one; every kind is proved beside its function.
+-- Laws of 01 to 05 and 07; every other kind is opened beside its function.
 pub mod StepLaws

@@ -1,4 +1,4 @@
--- The step of each kind that a caller meets one by one: 01 to 05, where the manager's answer decides what becomes of the books, and 07.
+-- The step of 03, 05 and 07, whose answer decides what becomes of the books, and of 01, 02 and 04, which a loop over lines answers itself.
 use mathlib.Core.Path.{_≡_, refl, ap}
 use mathlib.Core.Bool.{Bool}
 use Prim.Native.Nat.{ℕ}

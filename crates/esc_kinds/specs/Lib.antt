@@ -1,2 +1,2 @@
--- A clause for each kind.
+-- What each kind does: `stepOf`, a clause for each.
 pub mod Step

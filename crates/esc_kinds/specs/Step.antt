@@ -1,4 +1,4 @@
--- What each record does to the manager and the books of an opened unit, and its answer (document 01, 'Records').
+-- What each record does to the manager and the books, and its answer (document 01, 'Records').
 use Prim.Native.Nat.{ℕ}
 use mathlib.Core.Bool.{Bool, true, false, not}
 use lib.Dec.{eqb}

@@ -1,4 +1,4 @@
-// What each kind of record does to the manager and the books of an opened unit, and its answer.
+// What each kind of record does to the manager and the books, and its answer.
 mod recovery;
 mod report;
 mod requests;

@@ -5,7 +5,7 @@ use Prim.Native.Nat.{ℕ, suc, _<_, _≤_}
 use native.Mathlib.Omega.{arith}
 use lib.ListN.{length, getD}
 use Rattle.base.specs.BigEndian.{numberAt}
-use Rattle.esc_records.specs.Record.{widthOf}
+use Rattle.esc_records.specs.Record.{widthOf, lastKind}
 use Rattle.esc_records.specs.Whole.{Whole}
 use Rattle.esc_records.specs.Reader.{numberIn}
 use Rattle.esc_records.specs.Fields.{fieldWidths, width, place, fieldsBy, Found}
@@ -20,7 +20,7 @@ module _ (s : List ℕ) (f : Fields) (found : Found s f) where
   pub first-is : 0 < length s → getD s 0 0 ≡ f .kind
   first-is h = sym (ap (λ (g : Fields). g .kind) found ∙ (in-within 1 s 0 (omega arith) ∙ one-byte s 0))
 
-  pub end-is : f .kind ≤ 0x0e → f .end ≡ widthOf (f .kind)
+  pub end-is : f .kind ≤ lastKind → f .end ≡ widthOf (f .kind)
   end-is h = ap (λ (g : Fields). g .end) found ∙ ends-at (f .kind) h
 
   within : (i : ℕ) → place ws 7 ≡ length s → place ws (suc i) ≤ place ws 7 → numberIn (width ws i) s (place ws i) ≡ numberAt (width ws i) s (place ws i)
@@ -45,7 +45,7 @@ module _ (s : List ℕ) (f : Fields) (w : Whole s) (found : Found s f) where
   pub kind-first : getD s 0 0 ≡ f .kind
   kind-first = first-is s f found (omega (arith, w .width, ends-at (getD s 0 0) (w .known)))
 
-  pub known : f .kind ≤ 0x0e
+  pub known : f .kind ≤ lastKind
   known = rw kind-first at (w .known)
 
   pub first-of : (k : ℕ) → f .kind ≡ k → getD s 0 0 ≡ k

@@ -8,11 +8,11 @@ use lib.Dec.{T, leb, leb→le, eqb, eqb→eq}
 use lib.ListN.{replicate, List·getD-eq-default}
 use Rattle.base.proofs.ByCases.{below-or-not}
 use Rattle.base.proofs.Table.{at, every}
-use Rattle.esc_records.specs.Record.{widthOf}
+use Rattle.esc_records.specs.Record.{widthOf, lastKind}
 use Rattle.esc_records.specs.Reader.{Fits}
 use Rattle.esc_records.specs.Fields.{layouts, layoutOf, digits, fieldWidths, width, place}
 
-pub beyond : (k : ℕ) → 0x0e < k → 0 ≡ layoutOf k
+pub beyond : (k : ℕ) → lastKind < k → 0 ≡ layoutOf k
 unfolding layouts
 beyond k h = sym (List·getD-eq-default layouts 0 {n = k} (omega arith))
 
@@ -42,6 +42,6 @@ room k i h = (narrow k i h, omega (arith, narrow k i h, place-near k i (omega ar
 ends : ℕ → ℕ → Bool
 ends k _ = eqb (place (fieldWidths k) 7) (widthOf k)
 
-pub ends-at : (k : ℕ) → k ≤ 0x0e → place (fieldWidths k) 7 ≡ widthOf k
+pub ends-at : (k : ℕ) → k ≤ lastKind → place (fieldWidths k) 7 ≡ widthOf k
 unfolding ends layouts fieldWidths
 ends-at k h = eqb→eq _ _ (at ends (replicate 15 0) tt k (omega arith))

@@ -78,10 +78,14 @@ recordOf s =
 abbrev pub lanePlace : ℕ → ℕ
 lanePlace k = getD (0 ∷ 0 ∷ 5 ∷ 5 ∷ 0 ∷ 0 ∷ 0 ∷ 0 ∷ 0 ∷ 0 ∷ 0 ∷ 0 ∷ 0 ∷ 1 ∷ 1 ∷ []) k 0
 
+-- the kinds are 00 to 0e
+abbrev pub lastKind : ℕ
+lastKind = 0x0e
+
 -- 4: record empty, or first byte above 0e
 abbrev pub knownKind : List ℕ → Bool
 knownKind [] = false
-knownKind (k ∷ s) = leb k 0x0e
+knownKind (k ∷ s) = leb k lastKind
 
 -- 6: output byte above 3
 abbrev pub laneFits : List ℕ → Bool

@@ -1,4 +1,4 @@
--- Read in this order: the session, in pieces too (to SessionLaws); then the code's way: a line's answer,
+-- Read in this order: the session, in chunks too (to SessionLaws); then the code's way: a line's answer,
 -- the loop over a chunk, the end, a whole text.
 pub mod LinesLaws
 pub mod HeldAnswer

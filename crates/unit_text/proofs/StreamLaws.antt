@@ -1,4 +1,4 @@
--- A stream of characters: it does not matter in which pieces they come.
+-- A stream of characters: it does not matter in which chunks they come.
 use mathlib.Core.Path.{_≡_, refl, sym, _∙_}
 use mathlib.Core.Bool.{Bool, true, false}
 use mathlib.Core.List.{List, [], _∷_, _++_, append-nil, append-assoc}
@@ -18,7 +18,7 @@ use Rattle.unit_text.specs.Stream.{Streamed, afterOne, printedAt, after,
 use Rattle.unit_text.proofs.AnswerLength.{reply-length}
 use Rattle.hex_lines.proofs.PrintLaws.{printed-length}
 
--- pieces do not matter
+-- chunks do not matter
 pub after-append : (s : Streamed) (a b : List ℕ) → after s (a ++ b) ≡ after (after s a) b
 unfolding after
 after-append s [] b = refl

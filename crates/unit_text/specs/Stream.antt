@@ -1,4 +1,4 @@
--- A session fed in pieces of any size: one character at a time, and what is kept between two of them.
+-- A session fed in chunks of any size: one character at a time, and what is kept between two of them.
 use Prim.Native.Nat.{ℕ, suc, _-_}
 use mathlib.Core.List.{List, [], _∷_, _++_}
 use lib.Dec.{eqb, leb}

@@ -1,4 +1,4 @@
-// A session fed in pieces of any size. Between two pieces it keeps the unit and the start of the line
+// A session fed in chunks of any size. Between two chunks it keeps the unit and the start of the line
 // that is not ended: the same memory for a line of any width.
 ghost use mathlib.Core.Path.{_≡_};
 ghost use Prim.Native.Nat.{min};
@@ -95,7 +95,7 @@ impl Stream {
                 used += WIRE_LINE + 1;
                 continue;
             }
-            // Else the next line is read, or what the chunk has of it is held for the next piece.
+            // Else the next line is read, or what the chunk has of it is held for the next chunk.
             let found = next_record(&digits, &chunk[used..], &mut line, held, &mut bytes, opened);
             match found {
                 NextRecord::Open(n) => {
@@ -168,7 +168,7 @@ impl Stream {
                                 }
                             }
                         }
-                        // Any other kind goes by the unit's step.
+                        // Any other kind goes by `step`.
                         _ => {
                             let stepped = step(manager, books, record);
                             manager = stepped.manager;
@@ -180,7 +180,7 @@ impl Stream {
                 }
             }
         }
-        // What is left for the next piece.
+        // What is left for the next chunk.
         let unit = Unit {
             opened,
             manager,
