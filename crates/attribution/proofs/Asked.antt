@@ -53,10 +53,10 @@ no-more (a ∷ s) e = absurd (omega arith)
 
 -- a frame among them
 module _ (l : Log) (k : ℕ) (o : Own l k) (f : Frame) (r : ReadFrom (takenSince l) f) where
-  own-place : sentAs k (o .bytes) ≡ r .run .before ++ (all (r .ten) ++ r .run .after)
-  own-place = sym (o .since) ∙ r .run .place
+  own-place : sentAs k (o .bytes) ≡ r .row .before ++ (all (r .ten) ++ r .row .after)
+  own-place = sym (o .since) ∙ r .row .place
 
-  own-long : length (o .bytes) ≡ length (r .run .before) + (10 + length (r .run .after))
+  own-long : length (o .bytes) ≡ length (r .row .before) + (10 + length (r .row .after))
   own-long = sym (length-map (o .bytes) _) ∙ ap length own-place ∙ simp length-append (omega (arith, r .ten .count))
 
   sent-long : length (sentBy k l) ≡ length (o .before) + length (o .bytes)
@@ -69,8 +69,8 @@ module _ (l : Log) (k : ℕ) (o : Own l k) (f : Frame) (r : ReadFrom (takenSince
   kept-more : bytesIn (all (r .ten)) ≡ o .bytes
   kept-more =
       let few : length (sentBy k l) ≤ 10 = o .few (omega (arith, own-long)) in
-      let first = no-more (r .run .before) (omega (arith, own-long, sent-long)) in
-      let last = no-more (r .run .after) (omega (arith, own-long, sent-long)) in
+      let first = no-more (r .row .before) (omega (arith, own-long, sent-long)) in
+      let last = no-more (r .row .after) (omega (arith, own-long, sent-long)) in
       let same : sentAs k (o .bytes) ≡ all (r .ten) = own-place ∙ rw (first, last) (append-nil (all (r .ten))) in
       ap bytesIn (sym same) ∙ as-sent k (o .bytes)
 
@@ -78,11 +78,11 @@ module _ (l : Log) (k : ℕ) (o : Own l k) (f : Frame) (r : ReadFrom (takenSince
   sent-frame =
       let few : length (sentBy k l) ≤ 10 = o .few (omega (arith, own-long)) in
       let t = r .ten in
-      let ten : o .bytes ≡ bytesIn (t .nine) ++ t .check .byte ∷ [] = sym kept-more ∙ map-append _ (t .nine) (t .check ∷ []) in
+      let ten : o .bytes ≡ bytesIn (t .nine) ++ t .tenth .byte ∷ [] = sym kept-more ∙ map-append _ (t .nine) (t .tenth ∷ []) in
       let older = taken-before l in
       record {
         nine = bytesIn (t .nine);
-        check = t .check .byte;
+        tenth = t .tenth .byte;
         count = length-map (t .nine) _ ∙ t .count;
         checks = t .checks ∙ ap crcOf (values-in (t .nine));
         sent = o .sent ∙ rw (no-more (o .before) (omega (arith, own-long, sent-long))) ten;
@@ -97,7 +97,7 @@ came l q f a r =
       earlier = a .earlier;
       latest = a .newest;
       frame = sent-frame l (length (a .earlier)) (a .own) f r;
-      says = ap telemetryOf (r .bytes ∙ values-in (all (r .ten)) ∙ ap values (map-append _ (r .ten .nine) (r .ten .check ∷ [])));
+      says = ap telemetryOf (r .bytes ∙ values-in (all (r .ten)) ∙ ap values (map-append _ (r .ten .nine) (r .ten .tenth ∷ [])));
       when = r .when;
     }
 

@@ -14,6 +14,8 @@ use Rattle.booking.specs.Wire.{OnWire, byte, Frame, wire, latest, frameAt, time
 use Rattle.booking.specs.Booking.{bookedTo, openRequest, latestFrame, startedRequest, newlyStarted}
 use Rattle.booking.specs.Faults.{faulted}
 use Rattle.booking.specs.Claims.{pastOf}
+use Rattle.booking.proofs.ManagerSteps.{booked-none}
+use Rattle.booking.proofs.UnitSteps.{Calm}
 use Rattle.attribution.specs.Marks.{LogEntry, Log, sinceIn, past}
 use Rattle.attribution.specs.Origin.{requests}
 use Rattle.attribution.specs.Wiring.{whileNoFault, Wiring}
@@ -21,7 +23,7 @@ use Rattle.attribution.specs.Attributed.{Attributed}
 use Rattle.attribution.proofs.LawfulLog.{Lawful, lawful-at}
 use Rattle.attribution.proofs.Steps.{Shows, Step, plain, grants, takes, answers, ends, restarts}
 use Rattle.attribution.proofs.Along.{openingOf, along}
-use Rattle.attribution.proofs.Calm.{Calm, calm}
+use Rattle.attribution.proofs.Calm.{calm}
 use Rattle.attribution.proofs.Latest.{Clean, clean-end}
 use Rattle.attribution.proofs.Spent.{Spent, Origin, none-left, wiring-before, origin}
 use Rattle.attribution.proofs.WireSteps.{wire-same, wire-more, clean-keeps, frame-same}
@@ -41,10 +43,6 @@ covers l i k = go (faulted (past l)) refl
 record Silent (h : Past) : Type 0 where
   idle : openRequest h ≡ none → faulted h ≡ false → Clean (wire h)
   held : (q : Timed) → openRequest h ≡ some q → (f : Frame) → latestFrame h ≡ some f → Clean (wire h)
-
-unbooked : (x : Option EscActuatorRequest) → bookedTo x none ≡ none
-unbooked none = refl
-unbooked (some q) = refl
 
 module _ (o : Opening) (l : Log) (h : Past) (e : LogEntry) (i : Stands l h) (unasked : Calm h) (c : Silent h)
     (known : (b : Byte) → e .seen .wire .byte ≡ some b → faulted h ≡ false → Origin l (e .origin)) where
@@ -87,7 +85,7 @@ module _ (o : Opening) (l : Log) (h : Past) (e : LogEntry) (i : Stands l h) (una
           }
         where
           d : e .seen .requests .delivered ≡ none
-          d = s .delivered ∙ rw (y) (unbooked (startedRequest h))
+          d = s .delivered ∙ rw (y) (booked-none (startedRequest h))
 
           same : openRequest (e .seen ∷ h) ≡ openRequest h
           same = rw (d, s .timeout, s .granted)

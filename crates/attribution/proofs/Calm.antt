@@ -9,13 +9,11 @@ use Rattle.booking.specs.History.{Opening, Timed, Seen, Past}
 use Rattle.booking.specs.Booking.{openRequest}
 use Rattle.booking.specs.Faults.{faulted}
 use Rattle.booking.specs.Claims.{pastOf}
+use Rattle.booking.proofs.UnitSteps.{Calm}
 use Rattle.attribution.specs.Marks.{Log, past}
 use Rattle.attribution.proofs.LawfulLog.{Lawful}
 use Rattle.attribution.proofs.Steps.{Step, plain, grants, takes, answers, ends, restarts}
 use Rattle.attribution.proofs.Along.{along}
-
-abbrev pub Calm : Past → Type 0
-Calm h = faulted h ≡ true → openRequest h ≡ none
 
 -- a sample or not, what was not open is not open
 still-none : (d : Bool) (x : Option Timed) → x ≡ none → pick (d || false) none x ≡ none

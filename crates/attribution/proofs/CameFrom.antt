@@ -17,6 +17,7 @@ use Rattle.booking.specs.Wire.{wire}
 use Rattle.booking.specs.Booking.{openRequest}
 use Rattle.booking.specs.Faults.{faulted}
 use Rattle.booking.specs.Claims.{pastOf}
+use Rattle.booking.proofs.UnitSteps.{Calm}
 use Rattle.attribution.specs.Marks.{LogEntry, Log, sinceIn, past}
 use Rattle.attribution.specs.Origin.{requests, sentBy, atRecovery, atOpening}
 use Rattle.attribution.specs.Since.{takenSince}
@@ -25,7 +26,7 @@ use Rattle.attribution.specs.Attributed.{CameFrom}
 use Rattle.attribution.proofs.LawfulLog.{Lawful}
 use Rattle.attribution.proofs.Steps.{Shows, Passes, passing, Free, Step, plain, grants, takes, answers, ends, restarts}
 use Rattle.attribution.proofs.Along.{openingOf, along}
-use Rattle.attribution.proofs.Calm.{Calm, calm}
+use Rattle.attribution.proofs.Calm.{calm}
 use Rattle.attribution.proofs.Latest.{Clean}
 use Rattle.attribution.proofs.Spent.{Spent, spent-keeps, all-spent-keeps, Origin, wiring-before, origin}
 use Rattle.attribution.proofs.Since.{since-grant}

@@ -7,12 +7,11 @@ use Prim.Native.Nat.{ℕ}
 use lib.Dec.{eqb}
 use lib.ListN.{length, replicate}
 use Rattle.base.specs.Choice.{pick}
-use Rattle.base.specs.BigEndian.{bytesOf}
 use Rattle.esc_lanes.specs.Output.{laneOf}
 use Rattle.esc_lanes.specs.declared.request.EscActuatorRequest.{EscActuatorRequest}
 use Rattle.esc_lanes.specs.declared.request.EscTelemetryUpdate.{EscTelemetryUpdate}
 use Rattle.booking.specs.History.{Byte}
-use Rattle.booking.proofs.Session.{roomy}
+use Rattle.booking.proofs.Calls as calls
 use Rattle.attribution.specs.Marks.{Marked, MarkedHistory, Log, logOf, logAfter}
 use Rattle.attribution.specs.Origin.{requests}
 use Rattle.attribution.specs.Tests.{always}
@@ -24,12 +23,11 @@ use Rattle.attribution.specs.Pace.{askedAndDoneInTime, oneClock, setting
 use Rattle.attribution.proofs.ByRule.{traceMarked, marked-by-rule}
 
 abbrev pub unmarked : List ℕ → Marked
-unmarked bytes = record { call = roomy bytes; origin = none }
+unmarked bytes = record { call = calls.roomy bytes; origin = none }
 
 -- with a boot delay and a period, or none; acknowledgement timeout 20 where none is given, response timeout 100, quiet time 500
 abbrev settingOf : ℕ → ℕ → ℕ → ℕ → Marked
-settingOf delay period ackTimeout t =
-    unmarked (0x00 ∷ (bytesOf 4 delay ++ (bytesOf 4 period ++ (bytesOf 4 ackTimeout ++ (bytesOf 4 100 ++ (bytesOf 4 500 ++ bytesOf 8 t))))))
+settingOf delay period ackTimeout t = unmarked (calls.openWith delay period ackTimeout t)
 
 abbrev pub openingPaced : ℕ → ℕ → ℕ → Marked
 openingPaced delay period t = settingOf delay period 20 t
@@ -41,19 +39,19 @@ abbrev pub opening : ℕ → Marked
 opening t = openingWith 20 t
 
 abbrev pub queue : ℕ → ℕ → ℕ → Marked
-queue s l t = unmarked (0x02 ∷ (bytesOf 4 s ++ l ∷ bytesOf 8 t))
+queue s l t = unmarked (calls.queue s l t)
 
 abbrev pub acknowledge : ℕ → ℕ → ℕ → Marked
-acknowledge s l t = unmarked (0x03 ∷ (bytesOf 4 s ++ l ∷ (bytesOf 8 t ++ bytesOf 8 t)))
+acknowledge s l t = unmarked (calls.acknowledge s l t t)
 
 abbrev pub poll : ℕ → Marked
-poll t = unmarked (0x04 ∷ bytesOf 8 t)
+poll t = unmarked (calls.poll t)
 
 abbrev pub cut : Marked
-cut = unmarked (0x06 ∷ [])
+cut = unmarked calls.cutWire
 
 abbrev pub recover : ℕ → Marked
-recover t = unmarked (0x07 ∷ 0x00 ∷ bytesOf 8 t)
+recover t = unmarked (calls.recover t)
 
 -- a request that is queued and started at once
 abbrev pub ask : ℕ → ℕ → ℕ → List Marked
@@ -61,7 +59,7 @@ ask s l t = queue s l t ∷ acknowledge s l t ∷ []
 
 -- n bytes 00 of one origin; any ten 00 are a frame
 abbrev pub zeros : ℕ → Option ℕ → ℕ → List Marked
-zeros n o t = replicate n (record { call = roomy (0x05 ∷ 0x00 ∷ bytesOf 8 t); origin = o })
+zeros n o t = replicate n (record { call = calls.roomy (calls.byte t 0x00); origin = o })
 
 -- the lanes that samples were booked to, oldest first
 abbrev bookedIn : Option EscTelemetryUpdate → List ℕ

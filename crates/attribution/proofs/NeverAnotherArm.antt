@@ -27,8 +27,8 @@ no-other-arm P l u d w p =
       earlier = q .earlier;
       latest = q .newest;
       ten = r .ten;
-      run = r .run;
-      own = each-middle (noOther (length (q .earlier))) (r .run .before) (all (r .ten)) (r .run .after) (rw (r .run .place) at each-own);
+      row = r .row;
+      own = each-middle (noOther (length (q .earlier))) (r .row .before) (all (r .ten)) (r .row .after) (rw (r .row .place) at each-own);
       says = d .says ∙ ap telemetryOf (r .bytes);
       when = r .when ∙ d .when;
     }

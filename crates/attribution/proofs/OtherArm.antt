@@ -43,14 +43,14 @@ abbrev pub tenOwn : Log → Bool
 tenOwn l = leb 10 (ownOf (requests l) (takenSince l))
 
 own-ten : (l : Log) (u : EscTelemetryUpdate) → NoOtherArm l u → tenOwn l ≡ true
-own-ten l u c = le-leb 10 (ownOf (requests l) (takenSince l)) (rw (c .latest, c .run .place) ten)
+own-ten l u c = le-leb 10 (ownOf (requests l) (takenSince l)) (rw (c .latest, c .row .place) ten)
   where
-    ten : 10 ≤ countOf (noOther (length (c .earlier))) (c .run .before ++ (all (c .ten) ++ c .run .after))
+    ten : 10 ≤ countOf (noOther (length (c .earlier))) (c .row .before ++ (all (c .ten) ++ c .row .after))
     ten =
-        let x = count-append (noOther (length (c .earlier))) (c .run .before) (all (c .ten) ++ c .run .after) in
-        let y = count-append (noOther (length (c .earlier))) (all (c .ten)) (c .run .after) in
+        let x = count-append (noOther (length (c .earlier))) (c .row .before) (all (c .ten) ++ c .row .after) in
+        let y = count-append (noOther (length (c .earlier))) (all (c .ten)) (c .row .after) in
         let z = count-each (noOther (length (c .earlier))) (all (c .ten)) (c .own) in
-        let n = length-append (c .ten .nine) (c .ten .check ∷ []) in
+        let n = length-append (c .ten .nine) (c .ten .tenth ∷ []) in
         omega (arith, c .ten .count)
 
 pub other-arm : (ms : List Marked) → is (deliveredIn (ruleLog ms)) ≡ true → tenOwn (ruleLog ms) ≡ false → Refuted NoOtherArm ms

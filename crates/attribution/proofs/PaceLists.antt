@@ -32,7 +32,7 @@ use Rattle.booking.specs.Faults.{faulted, quietSince, retries, timeoutFor, reco
 use Rattle.booking.specs.Turns.{turn, lastQueued, existing}
 use Rattle.booking.specs.IdleRule.{check, verdict, streak, judged}
 use Rattle.booking.specs.Rule.{ruleFor}
-use Rattle.booking.proofs.Session.{roomy}
+use Rattle.booking.proofs.Calls.{roomy}
 use Rattle.attribution.specs.Marks.{Marked, callsOf, Log, logOf, logAfter, sinceIn}
 use Rattle.attribution.specs.Origin.{requests}
 use Rattle.attribution.specs.Since.{takenSince}

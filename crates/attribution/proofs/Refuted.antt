@@ -28,7 +28,7 @@ tenSent l = eqb (ownBy (requests l) l) 10
 came-ten : (l : Log) (u : EscTelemetryUpdate) → CameFrom l u → tenSent l ≡ true
 came-ten l u c =
     let f = c .frame in
-    eq-eqb (ownBy (requests l) l) 10 (rw (c .latest, f .sent, length-append (f .nine) (f .check ∷ [])) (omega (arith, f .count)))
+    eq-eqb (ownBy (requests l) l) 10 (rw (c .latest, f .sent, length-append (f .nine) (f .tenth ∷ [])) (omega (arith, f .count)))
 
 pub not-from : (ms : List Marked) → is (deliveredIn (ruleLog ms)) ≡ true → tenSent (ruleLog ms) ≡ false → Refuted CameFrom ms
 not-from = refuted-by CameFrom tenSent came-ten

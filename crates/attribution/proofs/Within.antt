@@ -12,7 +12,7 @@ use Rattle.booking.specs.Booking.{latestFrame}
 use Rattle.booking.specs.Claims.{pastOf}
 use Rattle.attribution.specs.Marks.{LogEntry, Log, past}
 use Rattle.attribution.specs.Origin.{Arrival}
-use Rattle.attribution.specs.Since.{takenSince, valuesOf, Ten, all, Run}
+use Rattle.attribution.specs.Since.{takenSince, valuesOf, Ten, all, InARow}
 use Rattle.attribution.proofs.LawfulLog.{Lawful}
 use Rattle.attribution.proofs.Steps.{Step, plain, grants, takes, answers, ends, restarts}
 use Rattle.attribution.proofs.Along.{openingOf, along}
@@ -35,9 +35,9 @@ record EndsWith (ts : List Arrival) (bs : List ℕ) : Type 0 where
 -- a frame was read from ten of the bytes
 pub record ReadFrom (ts : List Arrival) (f : Frame) : Type 0 where
   pub ten : Ten
-  pub run : Run (all ten) ts
+  pub row : InARow (all ten) ts
   pub bytes : f .bytes ≡ valuesOf (all ten)
-  pub when : ten .check .byte .at ≡ f .at
+  pub when : ten .tenth .byte .at ≡ f .at
 
 pub record Within (ts : List Arrival) (h : Past) : Type 0 where
   holds : (n : ℕ) (bs : List ℕ) → latest (wire h) n ≡ some bs → EndsWith ts bs
@@ -102,11 +102,11 @@ module _ (o : Opening) (l : Log) (h : Past) (e : LogEntry) (i : Within (takenSin
             ten =
                 record {
                   nine = k .last;
-                  check = t;
+                  tenth = t;
                   count = sym (length-map (k .last) _) ∙ ap length (k .same) ∙ latest-length (wire h) 9 (w .nine) (w .before);
                   checks = w .checks ∙ ap crcOf (sym (k .same));
                 };
-            run = record { before = k .before; after = []; place = rw (k .place) (simp (append-assoc, append-nil)) };
+            row = record { before = k .before; after = []; place = rw (k .place) (simp (append-assoc, append-nil)) };
             bytes = w .whole ∙ ap (λ (s : List ℕ). s ++ b .value ∷ []) (sym (k .same)) ∙ sym (values-more (k .last));
             when = refl;
           }
@@ -116,7 +116,7 @@ module _ (o : Opening) (l : Log) (h : Past) (e : LogEntry) (i : Within (takenSin
       old-frame f k =
           record {
             ten = k .ten;
-            run = record { before = k .run .before; after = k .run .after ++ t ∷ []; place = rw (k .run .place) (simp append-assoc) };
+            row = record { before = k .row .before; after = k .row .after ++ t ∷ []; place = rw (k .row .place) (simp append-assoc) };
             bytes = k .bytes;
             when = k .when;
           }

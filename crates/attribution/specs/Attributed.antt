@@ -26,12 +26,12 @@ values bs = map (λ (b : Byte). b .value) bs
 -- all that request k made an ESC send, as far as it came in, is nine bytes and their check byte, and no byte came in after them
 pub record SentFrame (l : Log) (k : ℕ) : Type 0 where
   pub nine : List Byte
-  pub check : Byte
+  pub tenth : Byte
   pub count : length nine ≡ 9
-  pub checks : check .value ≡ crcOf (values nine)
-  pub sent : sentBy k l ≡ nine ++ check ∷ []
+  pub checks : tenth .value ≡ crcOf (values nine)
+  pub sent : sentBy k l ≡ nine ++ tenth ∷ []
   pub others : List Arrival
-  pub newest : arrivals l ≡ others ++ sentAs k (nine ++ check ∷ [])
+  pub newest : arrivals l ≡ others ++ sentAs k (nine ++ tenth ∷ [])
 
 -- the request that the sample is booked to is the latest granted, and all that this request made an ESC send, as far as it came in, is
 -- the sample's nine bytes and their check byte, the last at the sample's time
@@ -39,8 +39,8 @@ pub record CameFrom (l : Log) (u : EscTelemetryUpdate) : Type 0 where
   pub earlier : List EscActuatorRequest
   pub latest : requests l ≡ bookedOn u ∷ earlier
   pub frame : SentFrame l (length earlier)
-  pub says : u .observation .sample ≡ telemetryOf (values (frame .nine ++ frame .check ∷ []))
-  pub when : frame .check .at ≡ u .observation .«observed_at_ms»
+  pub says : u .observation .sample ≡ telemetryOf (values (frame .nine ++ frame .tenth ∷ []))
+  pub when : frame .tenth .at ≡ u .observation .«observed_at_ms»
 
 -- of every list, where what is assumed holds
 abbrev pub AttributedIf : (Log → Type 0) → Type 0

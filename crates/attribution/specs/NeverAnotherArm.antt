@@ -12,7 +12,7 @@ use Rattle.esc_lanes.specs.declared.request.EscTelemetryUpdate.{EscTelemetryUpd
 use Rattle.booking.specs.FirstNine.{ofBytes}
 use Rattle.attribution.specs.Marks.{Marked, callsOf, Log}
 use Rattle.attribution.specs.Origin.{requests}
-use Rattle.attribution.specs.Since.{takenSince, valuesOf, each, Ten, all, Run}
+use Rattle.attribution.specs.Since.{takenSince, valuesOf, each, Ten, all, InARow}
 use Rattle.attribution.specs.Tests.{ofOrigin}
 use Rattle.attribution.specs.EachSample.{bookedOn, OfEachSample}
 use Rattle.attribution.specs.Pace.{Pace}
@@ -27,10 +27,10 @@ pub record NoOtherArm (l : Log) (u : EscTelemetryUpdate) : Type 0 where
   pub earlier : List EscActuatorRequest
   pub latest : requests l ≡ bookedOn u ∷ earlier
   pub ten : Ten
-  pub run : Run (all ten) (takenSince l)
+  pub row : InARow (all ten) (takenSince l)
   pub own : each (noOther (length earlier)) (all ten) ≡ true
   pub says : u .observation .sample ≡ telemetryOf (valuesOf (all ten))
-  pub when : ten .check .byte .at ≡ u .observation .«observed_at_ms»
+  pub when : ten .tenth .byte .at ≡ u .observation .«observed_at_ms»
 
 -- for every P and every list of calls whose records are bytes, each below 256: so a T is less than 2^64
 abbrev pub NeverAnotherArm : Type 0

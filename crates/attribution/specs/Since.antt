@@ -27,15 +27,15 @@ each test (t ∷ ts) = test (t .origin) && each test ts
 -- nine bytes and their check byte
 pub record Ten : Type 0 where
   pub nine : List Arrival
-  pub check : Arrival
+  pub tenth : Arrival
   pub count : length nine ≡ 9
-  pub checks : check .byte .value ≡ crcOf (valuesOf nine)
+  pub checks : tenth .byte .value ≡ crcOf (valuesOf nine)
 
 abbrev pub all : Ten → List Arrival
-all t = t .nine ++ t .check ∷ []
+all t = t .nine ++ t .tenth ∷ []
 
 -- some bytes stand among others one after another, with none between them
-pub record Run (part whole : List Arrival) : Type 0 where
+pub record InARow (part whole : List Arrival) : Type 0 where
   pub before : List Arrival
   pub after : List Arrival
   pub place : whole ≡ before ++ (part ++ after)

@@ -36,8 +36,8 @@ use Rattle.booking.specs.Turns.{turn, lastQueued, existing}
 use Rattle.booking.specs.IdleRule.{check, verdict, streak, judged}
 use Rattle.booking.specs.Rule.{ruleFor, traceOf}
 use Rattle.booking.specs.FirstNine.{ofBytes, frameFor, sampleHolds}
-use Rattle.booking.proofs.Session.{roomy}
-use Rattle.booking.proofs.Live.{open′, queue, acknowledge, byte, frame, pastBy, lastReply}
+use Rattle.booking.proofs.Calls.{roomy, open′, queue, acknowledge, byte, frame}
+use Rattle.booking.proofs.Live.{pastBy, lastReply}
 
 -- 57 °C, 15.79 V, 4.02 A, 231 mAh, 8100 eRPM; then the check byte
 abbrev nine : List ℕ

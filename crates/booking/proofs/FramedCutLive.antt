@@ -44,8 +44,7 @@ use Rattle.booking.specs.Wire.{OnWire, byte, cut, wire}
 use Rattle.booking.specs.Run.{feed, run}
 use Rattle.booking.specs.Claims.{pastAfter}
 use Rattle.booking.specs.FramedFromCut.{passed, rest, reopened, heard, given, justCut}
-use Rattle.booking.proofs.Session.{roomy}
-use Rattle.booking.proofs.Live.{open′, queue, acknowledge, poll, byte as wireByte, cutWire, recover, nine}
+use Rattle.booking.proofs.Calls.{roomy, open′, queue, acknowledge, poll, byte as wireByte, cutWire, recover, nine}
 
 abbrev calls : List (List ℕ) → List Call
 calls records = map roomy records

@@ -29,7 +29,8 @@ use Rattle.booking.specs.Faults.{faulted, quietSince, retries, timeoutFo
 use Rattle.booking.specs.Turns.{turn, lastQueued, existing}
 use Rattle.booking.specs.IdleRule.{check, verdict, streak, judged}
 use Rattle.booking.specs.Rule.{ruleFor, traceOf}
-use Rattle.booking.proofs.Live.{open′, byte, cutWire, nine, pastBy}
+use Rattle.booking.proofs.Calls.{open′, byte, cutWire, nine}
+use Rattle.booking.proofs.Live.{pastBy}
 
 -- the frame that a byte ends, after an opening and a list of records
 abbrev endedBy : ℕ → List (List ℕ) → Option (List ℕ)

@@ -1,5 +1,5 @@
 -- Read in this order: the unit's state as a function of the history, up to Traced, on which all else stands; what a past is known by (Accepted,
--- Lawful); the other claims, each after what it needs; lists on which they speak, from Session on; document 01's cases.
+-- Lawful); the other claims, each after what it needs; lists on which they speak, from Calls on; document 01's cases.
 pub mod Lanes
 pub mod Framing
 pub mod Tallies
@@ -24,6 +24,7 @@ pub mod Counted
 pub mod Sound
 pub mod Qualified
 pub mod ShownNewest
+pub mod Calls
 pub mod Session
 pub mod Live
 pub mod FirstLive

@@ -5,7 +5,6 @@ use mathlib.Core.List.{List, [], _∷_, _++_, map}
 use mathlib.Core.Bool.{true}
 use mathlib.Core.Option.{Option, none, some}
 use Prim.Native.Nat.{ℕ}
-use lib.ListN.{replicate}
 use Rattle.base.specs.Reply.{Reply, accepted, refused}
 use Rattle.base.specs.BigEndian.{numberAt, bytesOf}
 use Rattle.blheli_telemetry.specs.Crc.{crcBit, crcBits, crcByte, crcFrom, crcOf}
@@ -40,37 +39,7 @@ use Rattle.booking.specs.IdleRule.{check, verdict, streak, judged}
 use Rattle.booking.specs.Counts.{count, queued, delivered, ackTimeout, responseTimeout, renewed, reportFor}
 use Rattle.booking.specs.Rule.{ruleFor, traceOf}
 use Rattle.booking.specs.Claims.{pastOf}
-use Rattle.booking.proofs.Session.{roomy}
-
--- records
-abbrev pub open′ : List ℕ
-open′ = 0x00 ∷ (bytesOf 4 0 ++ (bytesOf 4 0 ++ (bytesOf 4 20 ++ (bytesOf 4 100 ++ (bytesOf 4 500 ++ bytesOf 8 0)))))
-
-abbrev pub queue : ℕ → ℕ → ℕ → List ℕ
-queue s l t = 0x02 ∷ (bytesOf 4 s ++ l ∷ bytesOf 8 t)
-
-abbrev pub acknowledge : ℕ → ℕ → ℕ → ℕ → List ℕ
-acknowledge s l started t = 0x03 ∷ (bytesOf 4 s ++ l ∷ (bytesOf 8 started ++ bytesOf 8 t))
-
-abbrev pub poll : ℕ → List ℕ
-poll t = 0x04 ∷ bytesOf 8 t
-
-abbrev pub byte : ℕ → ℕ → List ℕ
-byte t b = 0x05 ∷ b ∷ bytesOf 8 t
-
-abbrev pub cutWire : List ℕ
-cutWire = 0x06 ∷ []
-
-abbrev pub recover : ℕ → List ℕ
-recover t = 0x07 ∷ 0x00 ∷ bytesOf 8 t
-
--- eight 00, 1e and 5a are a frame (document 01, 'Cases for the proved table')
-abbrev pub nine : List ℕ
-nine = replicate 8 0x00 ++ 0x1e ∷ []
-
--- a frame of nothing but speed
-abbrev pub frame : ℕ → ℕ → List (List ℕ)
-frame t erpm = map (byte t) (replicate 8 0x00 ++ erpm ∷ crcOf (replicate 8 0x00 ++ erpm ∷ []) ∷ [])
+use Rattle.booking.proofs.Calls.{roomy, open′, queue, acknowledge, poll, byte, recover, frame}
 
 abbrev flight : List (List ℕ)
 flight =

@@ -32,7 +32,7 @@ use Rattle.esc_feedback.specs.declared.outstanding.PendingRequest.the-variants 
 use Rattle.esc_feedback.specs.declared.outstanding.Outstanding.{Outstanding}
 use Rattle.esc_feedback.specs.declared.manager.EscManager.{EscManager}
 use Rattle.base.specs.Maybe.{is}
-use Rattle.booking.specs.History.{Opening, Timed, Requests, Wire, Idle, Seen, Past}
+use Rattle.booking.specs.History.{Opening, Timed, Requests, Wire, Idle, Seen, wireByte, cutIf, Past}
 use Rattle.booking.specs.Wire.{Frame, timed, wire, frameAt, parsed}
 use Rattle.booking.specs.Booking.{equal, booked, openRequest, startedAt, latestFrame}
 use Rattle.booking.specs.Faults.{faulted, quietSince, retries, note}
@@ -111,14 +111,11 @@ is-timed : (f : Option (List ℕ)) (t : ℕ) → is (timed f t) ≡ is f
 is-timed none t = refl
 is-timed (some f) t = refl
 
-abbrev pub byteSeen : ℕ → ℕ → Wire
-byteSeen b t = record { byte = some (record { value = b; at = t }); cut = false; refreshed = false }
-
 module _ (h : Past) (p : StreamParser) (i : ParserAt h p) (b : ℕ) where
   pub given-at : pushOf p b .parsed ≡ parsed (frameAt (wire h) b)
   given-at = given-by-held p b (i .ten) ∙ byted (wire h) (held p) b (i .holds) .gives
 
-  pub parser-byte : (r : Requests) (t : ℕ) (k : Bool) (d : Idle) → ParserAt (event r (byteSeen b t) t k d ∷ h) (pushOf p b .parser)
+  pub parser-byte : (r : Requests) (t : ℕ) (k : Bool) (d : Idle) → ParserAt (event r (wireByte b t) t k d ∷ h) (pushOf p b .parser)
   unfolding wire saturating
   parser-byte r t k d =
       let s = byted (wire h) (held p) b (i .holds) in
@@ -129,22 +126,13 @@ module _ (h : Past) (p : StreamParser) (i : ParserAt h p) (b : ℕ) where
       }
 
 -- what leaves the wire alone leaves the parser alone
-abbrev pub noWire : Wire
-noWire = record { byte = none; cut = false; refreshed = false }
-
-abbrev pub cutSeen : Wire
-cutSeen = record { byte = none; cut = true; refreshed = false }
-
-abbrev pub refreshSeen : Wire
-refreshSeen = record { byte = none; cut = false; refreshed = true }
-
 pub parser-same : (h : Past) (p : StreamParser) (r : Requests) (w : Bool) (t : ℕ) (k : Bool) (d : Idle)
     → ParserAt h p → ParserAt (event r (record { byte = none; cut = false; refreshed = w }) t k d ∷ h) p
 unfolding wire saturating
 parser-same h p r w t k d i = record { ten = i .ten; holds = i .holds; counts = i .counts }
 
 pub parser-cut : (h : Past) (p : StreamParser) (r : Requests) (t : ℕ) (k : Bool) (d : Idle)
-    → ParserAt h p → ParserAt (event r cutSeen t k d ∷ h) (resetOf p)
+    → ParserAt h p → ParserAt (event r (cutIf true) t k d ∷ h) (resetOf p)
 unfolding wire saturating
 parser-cut h p r t k d i = record { ten = i .ten; holds = after-cut (wire h); counts = i .counts }
 

@@ -29,13 +29,27 @@ use Rattle.esc_lanes.specs.declared.request.EscActuatorAck.{EscActuatorAck}
 use Rattle.esc_lanes.specs.declared.request.EscTelemetryUpdate.{EscTelemetryUpdate}
 use Rattle.esc_feedback.specs.declared.answer.EscAckOutcome.{EscAckOutcome}
 use Rattle.esc_feedback.specs.declared.answer.EscAckOutcome.the-variants as outcome
-use Rattle.esc_feedback.specs.declared.answer.EscManagerTimeout.{EscManagerTimeout}
-use Rattle.esc_feedback.specs.declared.answer.EscManagerTimeout.the-variants as timeout
 use Rattle.esc_feedback.specs.declared.answer.WireUpdate.{WireUpdate}
 use Rattle.esc_feedback.specs.declared.answer.WireUpdate.the-variants as update
 use Rattle.esc_feedback.specs.declared.manager.EscManager.{EscManager}
 use Rattle.base.specs.Maybe.{is, earliest, onlyIf}
-use Rattle.booking.specs.History.{Opening, Timed, Requests, Wire, Idle, Past}
+use Rattle.booking.specs.History.{
+  saidTimeout,
+  Opening,
+  Timed,
+  Requests,
+  Idle,
+  noRequests,
+  noWire,
+  grantedIf,
+  timeoutSeen,
+  sampleSeen,
+  recoveredIf,
+  wireByte,
+  cutIf,
+  refreshSeen,
+  Past,
+}
 use Rattle.booking.specs.Wire.{Frame, timed, wire, frameAt}
 use Rattle.booking.specs.Booking.{equal, booked, bookedTo, openRequest, startedAt, latestFrame, newlyStarted, startedRequest}
 use Rattle.booking.specs.Faults.{faulted, quietSince, retries, note, timeoutFor, recovers}
@@ -50,10 +64,6 @@ use Rattle.booking.proofs.ManagerState.{
   managerAt,
   ParserAt,
   event,
-  byteSeen,
-  noWire,
-  cutSeen,
-  refreshSeen,
   given-at,
   parser-byte,
   heard-is,
@@ -66,15 +76,23 @@ use Rattle.booking.proofs.ManagerState.{
   opened,
 }
 
--- what a call shows of requests
-abbrev pub showing : Option Timed → Option Timed → Bool → Option EscTelemetryUpdate → Requests
-showing g a s u = record { granted = g; acknowledged = a; started = s; delivered = u; timeout = none; recovered = false }
+-- what a 03 shows of requests, by the request that it starts and the frame that is held
+abbrev pub ackSeen : EscActuatorAck → Option EscActuatorRequest → Option Frame → Requests
+ackSeen k q f =
+    record {
+      granted = none;
+      acknowledged = some (record { request = k .request; at = k .«started_at_ms» });
+      started = is q;
+      delivered = bookedTo q f;
+      timeout = none;
+      recovered = false;
+    }
 
 abbrev pub updateAnswer : Option EscTelemetryUpdate → WireUpdate
 updateAnswer none = update.None
 updateAnswer (some u) = update.Some u
 
-booked-none : (q : Option EscActuatorRequest) → bookedTo q none ≡ none
+pub booked-none : (q : Option EscActuatorRequest) → bookedTo q none ≡ none
 booked-none none = refl
 booked-none (some q) = refl
 
@@ -104,7 +122,7 @@ module _ (o : Opening) (h : Past) (p : StreamParser) (i : ParserAt h p) where
   ByteOk b now d =
       pushWire (managerAt o h p) b now
       ≡ record {
-        manager = managerAt o (event (showing none none false (delivers b now)) (byteSeen b now) now false d ∷ h) (pushOf p b .parser);
+        manager = managerAt o (event (sampleSeen (delivers b now)) (wireByte b now) now false d ∷ h) (pushOf p b .parser);
         answer = updateAnswer (delivers b now);
       }
 
@@ -121,7 +139,7 @@ module _ (o : Opening) (h : Past) (p : StreamParser) (i : ParserAt h p) where
         given-at h p i b,
         e,
         k,
-        parser-byte h p i b (showing none none false none) now false d .counts,
+        parser-byte h p i b noRequests now false d .counts,
         e,
         heard-is (faulted h) (quietSince h)
             (retries h) now,
@@ -132,7 +150,7 @@ module _ (o : Opening) (h : Past) (p : StreamParser) (i : ParserAt h p) where
         e,
         k,
         s,
-        parser-byte h p i b (showing none none false none) now false d .counts,
+        parser-byte h p i b noRequests now false d .counts,
         e,
         heard-is (faulted h) (quietSince h)
             (retries h) now,
@@ -145,7 +163,7 @@ module _ (o : Opening) (h : Past) (p : StreamParser) (i : ParserAt h p) where
         e,
         k,
         s,
-        parser-byte h p i b (showing none none false none) now false d .counts,
+        parser-byte h p i b noRequests now false d .counts,
         e,
         heard-is (faulted h) (quietSince h)
             (retries h) now,
@@ -170,19 +188,7 @@ module _ (o : Opening) (h : Past) (p : StreamParser) (i : ParserAt h p) where
   AckOk k now d =
       onAck (managerAt o h p) k
       ≡ record {
-        manager =
-            managerAt o
-            (event
-            (showing none
-            (some (record { request = k .request; at = k .«started_at_ms» }))
-            (is (newlyStarted h (k .request)))
-            (bookedTo (newlyStarted h (k .request)) (latestFrame h)))
-            noWire
-            now
-            false
-            d
-            ∷ h)
-            p;
+        manager = managerAt o (event (ackSeen k (newlyStarted h (k .request)) (latestFrame h)) noWire now false d ∷ h) p;
         answer = ackOutcome (newlyStarted h (k .request)) (latestFrame h);
       }
 
@@ -226,18 +232,10 @@ module _ (o : Opening) (h : Past) (p : StreamParser) (i : ParserAt h p) where
   ack-ok k now d = ack-open k now d (opened h)
 
   -- 04
-  abbrev timing : Option EscManagerTimeout → Requests
-  timing t = record { granted = none; acknowledged = none; started = false; delivered = none; timeout = t; recovered = false }
-
-  abbrev pub seenTimeout : EscManagerTimeout → Option EscManagerTimeout
-  seenTimeout timeout.None = none
-  seenTimeout (timeout.ActuatorAck q) = some (timeout.ActuatorAck q)
-  seenTimeout (timeout.TelemetryResponse q) = some (timeout.TelemetryResponse q)
-
   abbrev PollOk : ℕ → Idle → Type 0
   PollOk now d =
       pollTimeout (managerAt o h p) now
-      ≡ record { manager = managerAt o (event (timing (seenTimeout (timeoutFor o h now))) noWire now false d ∷ h) p; answer = timeoutFor o h now }
+      ≡ record { manager = managerAt o (event (timeoutSeen (saidTimeout (timeoutFor o h now) .timeout)) noWire now false d ∷ h) p; answer = timeoutFor o h now }
 
   poll-open : (now : ℕ) (d : Idle) → Open h → PollOk now d
   unfolding pollTimeout polledOn timeoutFor turn lastQueued openRequest startedAt latestFrame faulted quietSince retries note wrapping saturating renewed
@@ -286,13 +284,10 @@ module _ (o : Opening) (h : Past) (p : StreamParser) (i : ParserAt h p) where
   unfolding existing
   existing-turn now n e = only-some (ready now) (turn h) n e
 
-  abbrev grantSeen : Bool → EscActuatorRequest → ℕ → Requests
-  grantSeen y q now = showing (onlyIf y (some (record { request = q; at = now }))) none false none
-
   abbrev MarkOk : EscActuatorRequest → ℕ → Idle → Bool → Type 0
   MarkOk q now d y =
       markQueued (managerAt o h p) q now
-      ≡ record { manager = managerAt o (event (grantSeen y q now) noWire now false d ∷ h) p; answer = y }
+      ≡ record { manager = managerAt o (event (grantedIf y q now) noWire now false d ∷ h) p; answer = y }
 
   mark-some : (q : EscActuatorRequest) (now : ℕ) (d : Idle) (n : EscActuatorRequest) → existing o h now ≡ some n
       → (z : Bool) → equal n q ≡ z → MarkOk q now d z
@@ -311,12 +306,6 @@ module _ (o : Opening) (h : Past) (p : StreamParser) (i : ParserAt h p) where
       go (some n) e = mark-some q now d n e (equal n q) refl
 
   -- 07
-  abbrev recoverSeen : Bool → Requests
-  recoverSeen y = record { granted = none; acknowledged = none; started = false; delivered = none; timeout = none; recovered = y }
-
-  abbrev cutIf : Bool → Wire
-  cutIf y = record { byte = none; cut = y; refreshed = false }
-
   recover-by : (armed : Bool) (now : ℕ)
       → tryRecover (managerAt o h p) now armed
       ≡ pick (recovers o h armed now)
@@ -332,7 +321,7 @@ module _ (o : Opening) (h : Past) (p : StreamParser) (i : ParserAt h p) where
   pub recover-ok : (calm : faulted h ≡ true → openRequest h ≡ none) (armed : Bool) (now : ℕ) (d : Idle)
       → tryRecover (managerAt o h p) now armed
       ≡ record {
-        manager = managerAt o (event (recoverSeen (recovers o h armed now)) (cutIf (recovers o h armed now)) now false d ∷ h) (pick (recovers o h
+        manager = managerAt o (event (recoveredIf (recovers o h armed now)) (cutIf (recovers o h armed now)) now false d ∷ h) (pick (recovers o h
             armed now) (resetOf p) p);
         answer = recovers o h armed now;
       }
@@ -341,24 +330,24 @@ module _ (o : Opening) (h : Past) (p : StreamParser) (i : ParserAt h p) where
     where
       go : (z : Bool) → recovers o h armed now ≡ z
           → tryRecover (managerAt o h p) now armed
-          ≡ record { manager = managerAt o (event (recoverSeen z) (cutIf z) now false d ∷ h) (pick z (resetOf p) p); answer = z }
+          ≡ record { manager = managerAt o (event (recoveredIf z) (cutIf z) now false d ∷ h) (pick z (resetOf p) p); answer = z }
       go true z = recover-by armed now ∙ rw (z, calm (recovers-faulted armed now z))
       go false z = recover-by armed now ∙ rw z
 
   -- 06, 08 and 09
-  pub cut-ok : (d : Idle) → cutWire (managerAt o h p) ≡ managerAt o (event (showing none none false none) cutSeen 0 false d ∷ h) (resetOf p)
+  pub cut-ok : (d : Idle) → cutWire (managerAt o h p) ≡ managerAt o (event noRequests (cutIf true) 0 false d ∷ h) (resetOf p)
   unfolding turn lastQueued openRequest startedAt latestFrame faulted quietSince retries note wrapping saturating renewed
   cut-ok d = refl
 
-  pub take-ok : (d : Idle) → takeBack (managerAt o h p) .manager ≡ managerAt o (event (showing none none false none) noWire 0 true d ∷ h) p
+  pub take-ok : (d : Idle) → takeBack (managerAt o h p) .manager ≡ managerAt o (event noRequests noWire 0 true d ∷ h) p
   unfolding turn lastQueued openRequest startedAt latestFrame faulted quietSince retries note wrapping saturating renewed
   take-ok d = refl
 
-  pub refresh-ok : (d : Idle) → refreshed (managerAt o h p) ≡ managerAt o (event (showing none none false none) refreshSeen 0 false d ∷ h) p
+  pub refresh-ok : (d : Idle) → refreshed (managerAt o h p) ≡ managerAt o (event noRequests refreshSeen 0 false d ∷ h) p
   unfolding turn lastQueued openRequest startedAt latestFrame faulted quietSince retries note wrapping saturating renewed
   refresh-ok d = rw (i .counts)
 
   -- what shows nothing of requests and wire leaves the manager
-  pub same-ok : (now : ℕ) (d : Idle) → managerAt o h p ≡ managerAt o (event (showing none none false none) noWire now false d ∷ h) p
+  pub same-ok : (now : ℕ) (d : Idle) → managerAt o h p ≡ managerAt o (event noRequests noWire now false d ∷ h) p
   unfolding turn lastQueued openRequest startedAt latestFrame faulted quietSince retries note wrapping saturating renewed
   same-ok now d = refl

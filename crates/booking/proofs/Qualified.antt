@@ -128,7 +128,7 @@ earned h e i (asks n s) q v = go (check h) refl
         let w : says k x (e .now) (streak h) ≡ Qualified = same-status _ _ (rw (judged-is h k x (e .now) c v) at (sym s ∙ q)) in
         let g = enough-said k x (e .now) (streak h) w in
         record {
-          settings = k;
+          latestCheck = k;
           latest = c;
           lanes = λ l.
               fresh-justified (k .config) (e .now) (counted (e ∷ h) l) (g .needed) (g .looked l)

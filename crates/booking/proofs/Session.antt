@@ -6,16 +6,13 @@ use Rattle.base.specs.BigEndian.{numberAt, bytesOf}
 use Rattle.base.specs.Due.{due}
 use Rattle.esc_records.specs.Record.{recordOf, readRecord}
 use Rattle.esc_answers.specs.Answer.{requestBytes, nextBytes, timeoutBytes, bodyBytes, answerBytes, replyBytes}
-use Rattle.booking.specs.History.{Call, Event, since}
+use Rattle.booking.specs.History.{Event, since}
 use Rattle.booking.specs.Wire.{wire, latest, frameAt}
 use Rattle.booking.specs.Booking.{openRequest, startedAt}
 use Rattle.booking.specs.Faults.{faulted, quietSince, retries, timeoutFor, recovers}
 use Rattle.booking.specs.Turns.{turn, lastQueued, existing}
 use Rattle.booking.specs.Rule.{ruleFor, traceOf}
-
--- with room to spare
-abbrev pub roomy : List ℕ → Call
-roomy bytes = record { bytes = bytes; room = 43 }
+use Rattle.booking.proofs.Calls.{roomy}
 
 -- the replies to a list of records, oldest first
 abbrev pub replies : List (List ℕ) → List (List ℕ)

@@ -36,7 +36,8 @@ use Rattle.booking.specs.IdleRule.{check, verdict, streak, judged}
 use Rattle.booking.specs.Samples.{stored, deliveredOn}
 use Rattle.booking.specs.Rule.{ruleFor, traceOf}
 use Rattle.booking.specs.ShownNewest.{sinceRecovery, newestDelivered}
-use Rattle.booking.proofs.Live.{open′, queue, acknowledge, poll, recover, frame, Reading, reading, booked′, pastBy, lastReply}
+use Rattle.booking.proofs.Calls.{open′, queue, acknowledge, poll, recover, frame}
+use Rattle.booking.proofs.Live.{Reading, reading, booked′, pastBy, lastReply}
 
 abbrev show : ℕ → List ℕ
 show l = 0x0d ∷ l ∷ []

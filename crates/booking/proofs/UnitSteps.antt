@@ -28,8 +28,26 @@ use Rattle.esc_answers.specs.declared.answer.Answer.the-variants as answer
 use Rattle.esc_books.specs.declared.books.Books.{Books}
 use Rattle.esc_unit.specs.declared.unit.Unit.{Unit}
 use Rattle.esc_kinds.specs.declared.kinds.Stepped.{Stepped}
-use Rattle.base.specs.Maybe.{is, orElse, onlyIf}
-use Rattle.booking.specs.History.{Opening, Timed, Wire, Idle, Seen, seen, Past}
+use Rattle.base.specs.Maybe.{is, orElse}
+use Rattle.booking.specs.History.{
+  saidTimeout,
+  Opening,
+  Timed,
+  Wire,
+  Idle,
+  Seen,
+  noRequests,
+  noWire,
+  noIdle,
+  grantedIf,
+  timeoutSeen,
+  sampleSeen,
+  recoveredIf,
+  wireByte,
+  cutIf,
+  seen,
+  Past,
+}
 use Rattle.booking.specs.Wire.{Frame}
 use Rattle.booking.specs.Booking.{booked, bookedTo, openRequest, latestFrame, newlyStarted}
 use Rattle.booking.specs.Faults.{faulted, timeoutFor, recovers}
@@ -38,13 +56,12 @@ use Rattle.booking.specs.IdleRule.{judged}
 use Rattle.booking.specs.Counts.{queued, started, ackTimeout, responseTimeout, mismatched, unsolicited, recovered, frameEnded, wrong, renewed, reportFor}
 use Rattle.booking.specs.Rule.{ackAnswer, wireAnswerOf, answerTo}
 use Rattle.booking.proofs.Tallies.{wrapping-is, saturating-is}
-use Rattle.booking.proofs.ManagerState.{managerAt, ParserAt, event, byteSeen, noWire, parser-byte, parser-same, parser-cut, parser-new, manager-new}
+use Rattle.booking.proofs.ManagerState.{managerAt, ParserAt, event, parser-byte, parser-same, parser-cut, parser-new, manager-new}
 use Rattle.booking.proofs.ManagerSteps.{
-  showing,
+  ackSeen,
   updateAnswer,
   delivers,
   ackOutcome,
-  seenTimeout,
   byte-ok,
   ack-ok,
   poll-ok,
@@ -116,15 +133,14 @@ module _ (o : Opening) (h : Past) (p : StreamParser) (b : Books) (parser : Parse
       record { p = p′; b = b′; parser = i; calm = calm-keeps h e g calm; books = k; state = ap (λ (z : EscManager). unitOf z b′) s }
 
   -- 01, 0c, 0d and 0e show nothing
-  looked : (r : Record) (a a′ : Answer) → a ≡ a′ → seen r a ≡ event (showing none none false none) noWire 0 false (record { check = none; status = none })
+  looked : (r : Record) (a a′ : Answer) → a ≡ a′ → seen r a ≡ event noRequests noWire 0 false noIdle
       → StepOk o h r a′ (stepped m b a)
   looked r a a′ k e =
       record {
         answers = k;
         unit =
             rw e
-            (leaves _ m p b refl (same-ok o h p parser 0 (record { check = none; status = none })) (parser-same h p (showing none none false none)
-            false 0 false (record { check = none; status = none }) parser)
+            (leaves _ m p b refl (same-ok o h p parser 0 noIdle) (parser-same h p noRequests false 0 false noIdle parser)
             (same h b books _ refl refl refl refl));
       }
 
@@ -145,10 +161,7 @@ module _ (o : Opening) (h : Past) (p : StreamParser) (b : Books) (parser : Parse
 
   -- 02
   mark-calm : (q : EscActuatorRequest) (now : ℕ) (x : Option EscActuatorRequest) → existing o h now ≡ x
-      → Calm (event (showing (onlyIf (names x q) (some (record { request = q; at = now }))) none false none) noWire now false (record {
-        check = none;
-        status = none;
-      }) ∷ h)
+      → Calm (event (grantedIf (names x q) q now) noWire now false noIdle ∷ h)
   unfolding faulted openRequest
   mark-calm q now none e k = calm k
   mark-calm q now (some n) e k = absurd (true≢false (sym k ∙ existing-unfaulted o h now n e))
@@ -157,15 +170,14 @@ module _ (o : Opening) (h : Past) (p : StreamParser) (b : Books) (parser : Parse
       (kind.MarkRequestQueued q now))
   unfolding stepOf
   marked q now =
-      let d : Idle = record { check = none; status = none } in
-      rw (mark-ok o h p parser q now d)
+      rw (mark-ok o h p parser q now noIdle)
       (record {
         answers = refl;
         unit =
             record {
               p = p;
               b = b;
-              parser = parser-same h p _ false now false d parser;
+              parser = parser-same h p _ false now false noIdle parser;
               calm = mark-calm q now (existing o h now) refl;
               books = same h b books _ refl refl refl refl;
               state = refl;
@@ -177,17 +189,11 @@ module _ (o : Opening) (h : Past) (p : StreamParser) (b : Books) (parser : Parse
   says now u = bookedIn b u now .status
 
   abbrev idleAfter : Option EscTelemetryUpdate → (EscTelemetryUpdate → IdleAnswer) → Idle
-  idleAfter none f = record { check = none; status = none }
+  idleAfter none f = noIdle
   idleAfter (some u) f = record { check = none; status = some (f u) }
 
   abbrev acknowledging : EscActuatorAck → ℕ → Option EscActuatorRequest → Option Frame → Seen
-  acknowledging k now q f =
-      event
-      (showing none (some (record { request = k .request; at = k .«started_at_ms» })) (is q) (bookedTo q f))
-      noWire
-      now
-      false
-      (idleAfter (bookedTo q f) (says now))
+  acknowledging k now q f = event (ackSeen k q f) noWire now false (idleAfter (bookedTo q f) (says now))
 
   acked-on : (k : EscActuatorAck) (now : ℕ) (q : Option EscActuatorRequest) (f : Option Frame)
       → StepOk o h (kind.ActuatorAck k now)
@@ -221,15 +227,7 @@ module _ (o : Opening) (h : Past) (p : StreamParser) (b : Books) (parser : Parse
   -- 04
   polled-on : (now : ℕ) (t : EscManagerTimeout)
       → StepOk o h (kind.PollTimeout now) (answer.Timeout t)
-      (stepped (managerAt o (event (record {
-        granted = none;
-        acknowledged = none;
-        started = false;
-        delivered = none;
-        timeout = seenTimeout o h p
-            parser t;
-        recovered = false;
-      }) noWire now false (record { check = none; status = none }) ∷ h) p) b (answer.Timeout t))
+      (stepped (managerAt o (event (timeoutSeen (saidTimeout t .timeout)) noWire now false noIdle ∷ h) p) b (answer.Timeout t))
   polled-on now timeout.None =
       record { answers = refl; unit = leaves _ _ p b refl refl (parser-same h p _ false now false _ parser) (same h b books _ refl refl refl refl) }
   polled-on now (timeout.ActuatorAck q) =
@@ -239,11 +237,11 @@ module _ (o : Opening) (h : Past) (p : StreamParser) (b : Books) (parser : Parse
 
   polled : (now : ℕ) → StepOk o h (kind.PollTimeout now) (answer.Timeout (timeoutFor o h now)) (stepOf m b (kind.PollTimeout now))
   unfolding stepOf
-  polled now = rw (poll-ok o h p parser now (record { check = none; status = none })) (polled-on now (timeoutFor o h now))
+  polled now = rw (poll-ok o h p parser now noIdle) (polled-on now (timeoutFor o h now))
 
   -- 05
   abbrev wireEvent : ℕ → ℕ → Option EscTelemetryUpdate → Seen
-  wireEvent x now u = event (showing none none false u) (byteSeen x now) now false (idleAfter u (says now))
+  wireEvent x now u = event (sampleSeen u) (wireByte x now) now false (idleAfter u (says now))
 
   received-on : (x now : ℕ) (u : Option EscTelemetryUpdate)
       → StepOk o h (kind.WireByte x now)
@@ -269,14 +267,7 @@ module _ (o : Opening) (h : Past) (p : StreamParser) (b : Books) (parser : Parse
   -- 07
   recovered-on : (armed : Bool) (now : ℕ) (y : Bool)
       → StepOk o h (kind.TryRecover armed now) (answer.Decided y)
-      (recoveredOn (managerAt o (event (record {
-        granted = none;
-        acknowledged = none;
-        started = false;
-        delivered = none;
-        timeout = none;
-        recovered = y;
-      }) (record { byte = none; cut = y; refreshed = false }) now false (record { check = none; status = none }) ∷ h) (pick y (resetOf p) p)) b y)
+      (recoveredOn (managerAt o (event (recoveredIf y) (cutIf y) now false noIdle ∷ h) (pick y (resetOf p) p)) b y)
   recovered-on armed now true =
       record { answers = refl; unit = leaves _ _ (resetOf p) _ refl refl (parser-cut h p _ now false _ parser) (dropped h b books _ refl refl refl refl) }
   recovered-on armed now false =
@@ -285,15 +276,12 @@ module _ (o : Opening) (h : Past) (p : StreamParser) (b : Books) (parser : Parse
   recovering : (armed : Bool) (now : ℕ) → StepOk o h (kind.TryRecover armed now) (answer.Decided (recovers o h armed now)) (stepOf m b
       (kind.TryRecover armed now))
   unfolding stepOf
-  recovering armed now = rw (recover-ok o h p parser calm armed now (record { check = none; status = none })) (recovered-on armed now (recovers o h armed now))
+  recovering armed now = rw (recover-ok o h p parser calm armed now noIdle) (recovered-on armed now (recovers o h armed now))
 
   -- 06, 08 and 09
-  quietly : (r : Record) (n : EscManager) (p′ : StreamParser) (w : Wire) (k : Bool) → ParserAt (event (showing none none false none) w 0 k (record {
-    check = none;
-    status = none;
-  }) ∷ h) p′
-      → n ≡ managerAt o (event (showing none none false none) w 0 k (record { check = none; status = none }) ∷ h) p′
-      → (a : Answer) → seen r a ≡ event (showing none none false none) w 0 k (record { check = none; status = none })
+  quietly : (r : Record) (n : EscManager) (p′ : StreamParser) (w : Wire) (k : Bool) → ParserAt (event noRequests w 0 k noIdle ∷ h) p′
+      → n ≡ managerAt o (event noRequests w 0 k noIdle ∷ h) p′
+      → (a : Answer) → seen r a ≡ event noRequests w 0 k noIdle
       → (a′ : Answer) → a ≡ a′ → StepOk o h r a′ (stepped n b a)
   quietly r n p′ w k i s a e a′ z =
       record { answers = z; unit = rw e (leaves _ n p′ b refl s i (same h b books _ refl refl refl refl)) }
@@ -325,7 +313,7 @@ module _ (o : Opening) (h : Past) (p : StreamParser) (b : Books) (parser : Parse
       }
   step-ok (kind.IdleStatus now) f =
       let d : Idle = record { check = none; status = some (idleStatus b now .status) } in
-      let kept = asked-status h b books now (event (showing none none false none) noWire now false d) refl refl refl refl refl in
+      let kept = asked-status h b books now (event noRequests noWire now false d) refl refl refl refl refl in
       record {
         answers = ap answer.Idle (kept .status);
         unit = leaves _ m p _ refl (same-ok o h p parser now d) (parser-same h p _ false now false d parser) (kept .books);

@@ -56,7 +56,7 @@ abbrev pub updateIn : Option Delivered → Option EscTelemetryUpdate
 updateIn none = none
 updateIn (some d) = some (d .update)
 
-abbrev saidTimeout : EscManagerTimeout → Said
+abbrev pub saidTimeout : EscManagerTimeout → Said
 saidTimeout timeout.None = saidNothing
 saidTimeout (timeout.ActuatorAck q) = said false false none (some (timeout.ActuatorAck q)) none
 saidTimeout (timeout.TelemetryResponse q) = said false false none (some (timeout.TelemetryResponse q)) none
@@ -138,7 +138,7 @@ seenAt t q w i = record { opening = none; requests = q; wire = w; idle = i; now 
 abbrev pub nothing : Seen
 nothing = seenAt 0 noRequests noWire noIdle
 
-abbrev grantedIf : Bool → EscActuatorRequest → ℕ → Requests
+abbrev pub grantedIf : Bool → EscActuatorRequest → ℕ → Requests
 grantedIf y q t =
     record {
       granted = onlyIf y (some (record { request = q; at = t }));
@@ -160,20 +160,23 @@ acknowledged k s =
       recovered = false;
     }
 
-abbrev timeoutSeen : Option EscManagerTimeout → Requests
+abbrev pub timeoutSeen : Option EscManagerTimeout → Requests
 timeoutSeen t = record { granted = none; acknowledged = none; started = false; delivered = none; timeout = t; recovered = false }
 
-abbrev sampleSeen : Option EscTelemetryUpdate → Requests
+abbrev pub sampleSeen : Option EscTelemetryUpdate → Requests
 sampleSeen u = record { granted = none; acknowledged = none; started = false; delivered = u; timeout = none; recovered = false }
 
-abbrev recoveredIf : Bool → Requests
+abbrev pub recoveredIf : Bool → Requests
 recoveredIf y = record { granted = none; acknowledged = none; started = false; delivered = none; timeout = none; recovered = y }
 
-abbrev wireByte : ℕ → ℕ → Wire
+abbrev pub wireByte : ℕ → ℕ → Wire
 wireByte b t = record { byte = some (record { value = b; at = t }); cut = false; refreshed = false }
 
-abbrev cutIf : Bool → Wire
+abbrev pub cutIf : Bool → Wire
 cutIf y = record { byte = none; cut = y; refreshed = false }
+
+abbrev pub refreshSeen : Wire
+refreshSeen = record { byte = none; cut = false; refreshed = true }
 
 abbrev statusSeen : Said → Idle
 statusSeen s = record { check = none; status = s .status }
@@ -195,7 +198,7 @@ seenBy (kind.WireByte b t) s = seenAt t (sampleSeen (updateIn (s .delivered))) (
 seenBy kind.WireDiscontinuity s = seenAt 0 noRequests (cutIf true) noIdle
 seenBy (kind.TryRecover armed t) s = seenAt t (recoveredIf (s .yes)) (cutIf (s .yes)) noIdle
 seenBy kind.TakeBackAfterRetries s = record { opening = none; requests = noRequests; wire = noWire; idle = noIdle; now = 0; taken = true }
-seenBy kind.RefreshWireStats s = seenAt 0 noRequests (record { byte = none; cut = false; refreshed = true }) noIdle
+seenBy kind.RefreshWireStats s = seenAt 0 noRequests refreshSeen noIdle
 seenBy (kind.IdleCheck c t) s = seenAt t noRequests noWire (record { check = some (record { config = c; start = t }); status = none })
 seenBy (kind.IdleStatus t) s = seenAt t noRequests noWire (statusSeen s)
 seenBy kind.Report s = nothing

@@ -56,9 +56,9 @@ pub record Justified (c : EscIdleQualificationConfig) (now : ℕ) (us : List Esc
 -- a record and its answer, after h: there is a check, that of the latest 0a, and every lane is justified by it; expiry is
 -- judged at the now of the record that first says Qualified
 pub record Earned (h : Past) (e : Seen) : Type 0 where
-  pub settings : Check
-  pub latest : check h ≡ some settings
-  pub lanes : (l : Lane) → Justified (settings .config) (e .now) (counted (e ∷ h) l)
+  pub latestCheck : Check
+  pub latest : check h ≡ some latestCheck
+  pub lanes : (l : Lane) → Justified (latestCheck .config) (e .now) (counted (e ∷ h) l)
 
 -- after any list of calls, an accepted call whose answer says Qualified, the first verdict since the latest 0a, has earned it
 unfoldable pub QualifiedOnlyIf : Type 0

@@ -19,20 +19,14 @@ use Rattle.esc_records.specs.Admission.{admittedOn, admittedOf}
 use Rattle.esc_unit.specs.declared.unit.Unit.{Unit}
 use Rattle.esc_kinds.specs.declared.kinds.Stepped.{Stepped}
 
--- one of two tests is enough
-either : (a b c : Bool) (x y : Replied) → a || b ≡ c → pick a x (pick b x y) ≡ pick c x y
-either true b true x y e = refl
-either true b false x y e = absurd (false≢true (sym e))
-either false b c x y e = ap (λ (t : Bool). pick t x y) e
-
 module _ (u : Unit) (r : Record) where
   pub enter-refused : u .opened || opens r ≡ false → enter u r ≡ refusing u 8
   unfolding enter
-  enter-refused e = either (u .opened) (opens r) false _ _ e
+  enter-refused e = rw e
 
   pub enter-accepted : u .opened || opens r ≡ true → enter u r ≡ accepting (stepOf (u .manager) (u .books) r)
   unfolding enter
-  enter-accepted e = either (u .opened) (opens r) true _ _ e
+  enter-accepted e = rw e
 
 -- a call is its record's admission, and then its answer
 pub call-admission : (u : Unit) (s : List ℕ) (room : ℕ) → callOf u s room ≡ onAdmitted u room (admittedOf (u .opened) s)
@@ -56,9 +50,9 @@ pub call-taken : (u : Unit) (s : List ℕ) (room : ℕ) (r : Record) → admitte
 call-taken u s room r e = call-admission u s room ∙ ap (onAdmitted u room) e
 
 -- a refused call leaves the unit and the lent output as found
-pub record Kept (u : Unit) (out : List ℕ) (k : Replied) : Type 0 where
+pub record Kept (u : Unit) (k : Replied) : Type 0 where
   pub unit : k .unit ≡ u
-  pub output : outputAfter (k .reply) out ≡ out
+  pub output : (out : List ℕ) → outputAfter (k .reply) out ≡ out
 
 module _ (u : Unit) (room n : ℕ) where
   kept-roomed : (s : Stepped) (b : Bool) → pick b (accepting s) (refusing u 9) .reply ≡ refused n → pick b (accepting s) (refusing u 9) .unit ≡ u
@@ -69,12 +63,11 @@ module _ (u : Unit) (room n : ℕ) where
   kept-admitted (refused m) h = refl
   kept-admitted (accepted r) h = kept-roomed (stepOf (u .manager) (u .books) r) (leb (length (answerBytes (stepOf (u .manager) (u .books) r .answer))) room) h
 
-pub refusal-keeps : (u : Unit) (s : List ℕ) (room : ℕ) (out : List ℕ) (n : ℕ)
-    → callOf u s room .reply ≡ refused n → Kept u out (callOf u s room)
+pub call-keeps : (u : Unit) (s : List ℕ) (room n : ℕ) → callOf u s room .reply ≡ refused n → Kept u (callOf u s room)
 unfolding outputAfter
-refusal-keeps u s room out n e =
+call-keeps u s room n e =
     let by = call-admission u s room in
     record {
       unit = ap (λ (k : Replied). k .unit) by ∙ kept-admitted u room n (admittedOf (u .opened) s) (sym (ap (λ (k : Replied). k .reply) by) ∙ e);
-      output = ap (λ (q : Reply Answer). outputAfter q out) e;
+      output = λ out. ap (λ (q : Reply Answer). outputAfter q out) e;
     }

@@ -1,6 +1,6 @@
 -- The unit: one manager and its books, a record's way into it, and a call (document 01, 'Records').
 use Prim.Native.Nat.{ℕ}
-use mathlib.Core.Bool.{true, false}
+use mathlib.Core.Bool.{true, false, _||_}
 use mathlib.Core.List.{List}
 use lib.Dec.{leb}
 use lib.ListN.{length}
@@ -52,7 +52,7 @@ accepting s = record { unit = unitOf (s .manager) (s .books); reply = accepted (
 
 -- 8: any kind but 00 before the first accepted 00
 unfoldable pub enter : Unit → Record → Replied
-enter u r = pick (u .opened) (accepting (stepOf (u .manager) (u .books) r)) (pick (opens r) (accepting (stepOf (u .manager) (u .books) r)) (refusing u 8))
+enter u r = pick (u .opened || opens r) (accepting (stepOf (u .manager) (u .books) r)) (refusing u 8)
 
 -- 9: lent output shorter than what is written
 abbrev pub ifRoom : Unit → ℕ → Replied → Reply Answer → Replied
