@@ -8,7 +8,7 @@ use lib.ListN.{length, getD}
 use borrow.Author.Tests.{eqb-true}
 use Rattle.base.specs.Choice.{pick}
 use Rattle.base.specs.Reply.{accepted, refused, isAccepted}
-use Rattle.airframe.specs.Motor.{digit, motorNumber}
+use Rattle.airframe.specs.Motor.{numeral, motorNumber}
 use Rattle.airframe.specs.Once.{times, eachOnce}
 use Rattle.airframe.specs.BoardMap.{mapOf, readMap}
 use Rattle.airframe.specs.declared.motor.MotorNumber.{MotorNumber}
@@ -55,13 +55,13 @@ bytes-kept s m e =
     let a = read-accepted s m e in
     ap numbersOf (sym (a .map)) ∙ numbers-of-map s (a .four) (a .once)
 
-times-digit : (s : List ℕ) → Each s → (d : MotorNumber) → times (digit d) s ≡ 1
-times-digit s w One = w .one
-times-digit s w Two = w .two
-times-digit s w Three = w .three
-times-digit s w Four = w .four
+times-numeral : (s : List ℕ) → Each s → (d : MotorNumber) → times (numeral d) s ≡ 1
+times-numeral s w One = w .one
+times-numeral s w Two = w .two
+times-numeral s w Three = w .three
+times-numeral s w Four = w .four
 
 -- each motor is on one lane
 pub on-one-lane : (s : List ℕ) (m : BoardMap) → readMap s ≡ accepted m → (k : Motor) → times (motorNumber k) (numbersOf m) ≡ 1
 on-one-lane s m e k =
-    ap (times (motorNumber k)) (bytes-kept s m e) ∙ times-digit s (each s (read-accepted s m e .once)) (k .0)
+    ap (times (motorNumber k)) (bytes-kept s m e) ∙ times-numeral s (each s (read-accepted s m e .once)) (k .0)

@@ -5,7 +5,7 @@ use Rattle.esc_lanes.specs.Output.{laneNumber, laneOf}
 use Rattle.esc_lanes.specs.declared.output.Lane.{Lane}
 use Rattle.esc_lanes.specs.declared.output.Lane.the-variants.{Output1, Output2, Output3, Output4}
 use Rattle.esc_lanes.specs.declared.output.EscOutput.{EscOutput}
-use Rattle.airframe.specs.Motor.{digit, motorNumber, motorOf, readMotor}
+use Rattle.airframe.specs.Motor.{numeral, motorNumber, motorOf, readMotor}
 use Rattle.airframe.specs.Lane.{readLane}
 use Rattle.airframe.specs.BoardMap.{motorOn, outputWith, converted, motorOnByte, outputWithByte}
 use Rattle.airframe.specs.declared.motor.MotorNumber.{MotorNumber}
@@ -20,15 +20,15 @@ read-lane Output2 = refl
 read-lane Output3 = refl
 read-lane Output4 = refl
 
-read-digit : (d : MotorNumber) → readMotor (digit d) ≡ accepted (record { 0 = d })
+read-numeral : (d : MotorNumber) → readMotor (numeral d) ≡ accepted (record { 0 = d })
 unfolding motorOf readMotor
-read-digit One = refl
-read-digit Two = refl
-read-digit Three = refl
-read-digit Four = refl
+read-numeral One = refl
+read-numeral Two = refl
+read-numeral Three = refl
+read-numeral Four = refl
 
 pub motor-by-byte : (m : BoardMap) (o : EscOutput) → motorOnByte m (laneOf o) ≡ accepted (motorOn m o)
 motor-by-byte m o = ap (converted (motorOn m)) (read-lane (o .0))
 
 pub output-by-byte : (m : BoardMap) (k : Motor) → outputWithByte m (motorNumber k) ≡ accepted (outputWith m k)
-output-by-byte m k = ap (converted (outputWith m)) (read-digit (k .0))
+output-by-byte m k = ap (converted (outputWith m)) (read-numeral (k .0))

@@ -4,20 +4,20 @@ use mathlib.Core.Bool.{true}
 use Prim.Native.Nat.{ℕ, zero, suc, _≤_}
 use native.Mathlib.Omega.{arith}
 use borrow.Author.Tests.{eqb-true}
-use Rattle.airframe.specs.Motor.{digit, motorNumber, sameMotor, motorOf}
+use Rattle.airframe.specs.Motor.{numeral, motorNumber, sameMotor, motorOf}
 use Rattle.airframe.specs.declared.motor.MotorNumber.{MotorNumber}
 use Rattle.airframe.specs.declared.motor.MotorNumber.the-variants.{One, Two, Three, Four}
 use Rattle.airframe.specs.declared.motor.Motor.{Motor}
 
-motor-of-digit : (d : MotorNumber) → motorOf (digit d) ≡ record { 0 = d }
+motor-of-numeral : (d : MotorNumber) → motorOf (numeral d) ≡ record { 0 = d }
 unfolding motorOf
-motor-of-digit One = refl
-motor-of-digit Two = refl
-motor-of-digit Three = refl
-motor-of-digit Four = refl
+motor-of-numeral One = refl
+motor-of-numeral Two = refl
+motor-of-numeral Three = refl
+motor-of-numeral Four = refl
 
 motor-of-number : (k : Motor) → motorOf (motorNumber k) ≡ k
-motor-of-number k = motor-of-digit (k .0)
+motor-of-number k = motor-of-numeral (k .0)
 
 pub number-of-motor : (n : ℕ) → (1 ≤ n) × (n ≤ 4) → motorNumber (motorOf n) ≡ n
 unfolding motorOf

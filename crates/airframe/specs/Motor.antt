@@ -10,14 +10,14 @@ use Rattle.airframe.specs.declared.motor.Motor.{Motor}
 use Rattle.airframe.specs.declared.motor.MotorRead.{MotorRead}
 use Rattle.airframe.specs.declared.motor.MotorRead.the-variants as read
 
-abbrev pub digit : MotorNumber → ℕ
-digit One = 1
-digit Two = 2
-digit Three = 3
-digit Four = 4
+abbrev pub numeral : MotorNumber → ℕ
+numeral One = 1
+numeral Two = 2
+numeral Three = 3
+numeral Four = 4
 
 abbrev pub motorNumber : Motor → ℕ
-motorNumber m = digit (m .0)
+motorNumber m = numeral (m .0)
 
 abbrev pub sameMotor : Motor → Motor → Bool
 sameMotor a b = eqb (motorNumber a) (motorNumber b)

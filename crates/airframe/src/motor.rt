@@ -46,7 +46,7 @@ impl Motor {
         }
     }
 
-    // Two values of an enum can't be compared by ==.
+    // Whether both are one motor: two values of an enum can't be compared by ==.
     pub fn same(self, other: Motor) -> bool
         ensures { λ r. ⌜ r ≡ sameMotor self other ⌝ }
     {

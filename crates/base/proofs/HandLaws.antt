@@ -10,7 +10,7 @@ use lib.Seq.{take-suc, take-all, length-take-le}
 use Rattle.base.specs.Reply.{accepted, refused}
 use Rattle.base.specs.BigEndian.{overwrite}
 use Rattle.base.proofs.ByCases.{below-or-not}
-use Rattle.base.proofs.BigEndianLaws.{overwrite-append, overwrite-set}
+use Rattle.base.proofs.BigEndianLaws.{overwrite-append, overwrite-set, overwrite-front}
 use Rattle.base.specs.Handed.{handedReply, handedOutput, copied}
 
 module _ (text out : List ℕ) where
@@ -40,12 +40,15 @@ module _ (text out : List ℕ) where
       absurd (omega arith))
       (λ h. h)
 
+  pub told-length : (n : ℕ) → accepted n ≡ handedReply text (length out) → n ≡ length text
+  told-length n e = let q : accepted n ≡ accepted (length text) = e ∙ fits-reply (told-fits n e) in cc
+
   pub told-within : (n : ℕ) → accepted n ≡ handedReply text (length out) → n ≤ length out
-  told-within n e =
-      let h : length text ≤ length out = told-fits n e in
-      let q : accepted n ≡ accepted (length text) = e ∙ fits-reply h in
-      let count : n ≡ length text = cc in
-      omega arith
+  told-within n e = omega (arith, told-fits n e, told-length n e)
+
+  -- the text stands in front of the output
+  pub told-text : (out′ : List ℕ) (n : ℕ) → accepted n ≡ handedReply text (length out) → out′ ≡ handedOutput text out → take n out′ ≡ text
+  told-text out′ n e o = ap (take n) (o ∙ fits-output (told-fits n e)) ∙ overwrite-front text out n (sym (told-length n e))
 
   pub told-space : refused 9 ≡ handedReply text (length out) → out ≡ handedOutput text out
   told-space e =

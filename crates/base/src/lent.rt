@@ -42,7 +42,8 @@ pub fn copy(text: &[u8], n: usize, out: &mut [u8], at: usize)
     }
 }
 
-fn smaller(a: usize, b: usize) -> usize
+// The smaller of two counts.
+pub fn smaller(a: usize, b: usize) -> usize
     ensures { λ r. ⌜ r ≡ min a b ⌝ }
 {
     if a < b { a } else { b }

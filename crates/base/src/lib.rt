@@ -9,5 +9,6 @@ pub use byte::wide;
 pub use lent::Handed;
 pub use lent::copy;
 pub use lent::hand;
+pub use lent::smaller;
 pub use saturating::saturating_inc;
 pub use time::elapsed_at_least;

@@ -13,13 +13,11 @@ use Rattle.blheli_telemetry.specs.declared.parser.ParserStats.{ParserSta
 use Rattle.blheli_telemetry.specs.declared.parser.StreamParser.{StreamParser}
 use Rattle.blheli_telemetry.specs.declared.parser.Pushed.{Pushed}
 
+abbrev pub noCounts : ParserStats
+noCounts = record { «valid_frames» = 0; «crc_failures» = 0; «discarded_bytes» = 0 }
+
 abbrev pub newParser : StreamParser
-newParser =
-    record {
-      bytes = replicate 10 0;
-      len = 0;
-      stats = record { «valid_frames» = 0; «crc_failures» = 0; «discarded_bytes» = 0 };
-    }
+newParser = record { bytes = replicate 10 0; len = 0; stats = noCounts }
 
 abbrev pub countedGood : ParserStats → ParserStats
 countedGood s =

@@ -3,7 +3,7 @@ ghost use mathlib.Core.Path.{_≡_};
 ghost use Rattle.blheli_telemetry.specs.Crc.{crcByte, crcOf, CrcTabled};
 use crate::crc_table::CRC_TABLE;
 
-// The table is laid out once for a call, and lent: a constant is laid out anew at each use.
+// The check byte of bytes. The table is laid out once for a call, and lent: a constant is laid out anew at each use.
 pub fn crc8(bytes: &[u8]) -> u8
     ensures { λ r. ⌜ r ≡ crcOf (now (bytes .entry)) ⌝ }
 {

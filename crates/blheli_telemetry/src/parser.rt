@@ -5,7 +5,7 @@
 ghost use mathlib.Core.Path.{_≡_};
 ghost use lib.Dec.{ltb};
 ghost use Rattle.base.specs.Choice.{pick};
-ghost use Rattle.blheli_telemetry.specs.Parser.{newParser, countedGood, countedBad, shiftedDown, collected, pushOf, resetOf};
+ghost use Rattle.blheli_telemetry.specs.Parser.{noCounts, newParser, countedGood, countedBad, shiftedDown, collected, pushOf, resetOf};
 use crate::frame::Decoded;
 use crate::frame::EscTelemetry;
 use crate::frame::decode;
@@ -34,17 +34,26 @@ pub struct Pushed {
     pub parsed: Parsed,
 }
 
+impl ParserStats {
+    // Nothing counted.
+    pub fn new() -> Self
+        ensures { λ r. ⌜ r ≡ noCounts ⌝ }
+    {
+        Self {
+            valid_frames: 0,
+            crc_failures: 0,
+            discarded_bytes: 0,
+        }
+    }
+}
+
 impl StreamParser {
     // A parser that holds no byte and has counted nothing.
     pub fn new() -> Self
         ensures { λ r. ⌜ r ≡ newParser ⌝ }
     {
         let bytes = [0u8; 10];
-        let stats = ParserStats {
-            valid_frames: 0,
-            crc_failures: 0,
-            discarded_bytes: 0,
-        };
+        let stats = ParserStats::new();
         Self {
             bytes,
             len: 0,

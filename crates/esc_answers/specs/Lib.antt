@@ -1,3 +1,3 @@
 -- Read in this order: what each answer's bytes are; the buffer that has room for any.
 pub mod Answer
-pub mod Text
+pub mod Encoded

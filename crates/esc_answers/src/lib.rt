@@ -1,8 +1,8 @@
 // Answers: one type for each shape that document 01 gives them, and their bytes.
 mod answer;
+mod encode;
 mod put;
 mod put_parts;
-mod text;
 mod write;
 
 pub use answer::AckAnswer;
@@ -13,10 +13,10 @@ pub use answer::IdleAnswer;
 pub use answer::StoredAnswer;
 pub use answer::UnitReport;
 pub use answer::WireAnswer;
-pub use text::AnswerText;
-pub use text::LONGEST_ANSWER;
-pub use text::answer_text;
-pub use text::delivered_text;
-pub use text::next_text;
-pub use text::timeout_text;
+pub use encode::EncodedAnswer;
+pub use encode::LONGEST_ANSWER;
+pub use encode::encode_answer;
+pub use encode::encode_delivered;
+pub use encode::encode_next;
+pub use encode::encode_timeout;
 pub use write::write_answer;

@@ -8,6 +8,7 @@ use crate::answer::AckAnswer;
 use crate::answer::Answer;
 use crate::answer::StoredAnswer;
 use crate::answer::WireAnswer;
+use crate::encode::encode_answer;
 use crate::put::put_byte;
 use crate::put::put_flag;
 use crate::put::put_number;
@@ -17,7 +18,6 @@ use crate::put_parts::put_idle;
 use crate::put_parts::put_marked_request;
 use crate::put_parts::put_marked_sample;
 use crate::put_parts::put_report;
-use crate::text::answer_text;
 use base::Handed;
 use base::hand;
 use esc_feedback::BackAfterRetries;
@@ -29,7 +29,7 @@ pub fn write_answer(answer: Answer, out: &mut [u8]) -> Handed
     ensures { λ r. ⌜ handed r ≡ handedReply (answerBytes answer) (length (now (out .entry))) ⌝ }
     ensures { λ _. ⌜ now (out .exit) ≡ handedOutput (answerBytes answer) (now (out .entry)) ⌝ }
 {
-    let text = answer_text(answer);
+    let text = encode_answer(answer);
     let bytes = text.bytes;
     hand(&bytes, text.len, out)
 }

@@ -60,8 +60,8 @@ impl Fault {
         (quiet_ms as u64) << doublings
     }
 
-    // The time since the quiet start saturates, unlike that of elapsed_at_least: an acknowledgement
-    // stamped after now_ms must keep the window open, not end it.
+    // Whether telemetry may resume. The time since the quiet start saturates, unlike that of elapsed_at_least: an
+    // acknowledgement stamped after now_ms must keep the window open, not end it.
     pub fn may_recover(self, quiet_ms: u32, now_ms: u64, armed: bool) -> bool
         ensures { λ r. ⌜ r ≡ mayRecover self «quiet_ms» «now_ms» armed ⌝ }
     {

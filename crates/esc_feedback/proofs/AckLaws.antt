@@ -1,4 +1,4 @@
--- 03, one law for each case: nothing queued, another request's, and the queued one's without and with a held frame.
+-- 03, one law for each case: nothing queued, another request's, and the queued one's.
 use mathlib.Core.Path.{_≡_, refl, ap}
 use mathlib.Core.Bool.{true, false}
 use mathlib.Core.List.{[], _∷_}
@@ -8,17 +8,12 @@ use borrow.Author.Tests.{eqb-false}
 use denote.Enum.Declared.{tagOf}
 use types.Run.{OneOf}
 use Rattle.base.specs.Choice.{pick}
-use Rattle.esc_lanes.specs.Request.{sameRequest, updateOf}
-use Rattle.esc_feedback.specs.Stats.{requestsStarted}
-use Rattle.esc_feedback.specs.Outstanding.{startedOutstanding}
-use Rattle.esc_feedback.specs.Manager.{setOutstanding, counting, heardBy, closedBySample}
+use Rattle.esc_lanes.specs.Request.{sameRequest}
+use Rattle.esc_feedback.specs.Manager.{heardBy}
 use Rattle.esc_feedback.specs.Ack.{rejectedAck, startedBy, ackOn, onAck}
 use Rattle.esc_lanes.specs.declared.request.EscActuatorRequest.{EscActuatorRequest}
 use Rattle.esc_lanes.specs.declared.request.EscActuatorAck.{EscActuatorAck}
-use Rattle.esc_lanes.specs.declared.request.EscTelemetryObservation.{EscTelemetryObservation}
-use Rattle.esc_feedback.specs.declared.answer.EscAckOutcome.the-variants as outcome
 use Rattle.esc_feedback.specs.declared.outstanding.EarlyObservation.{EarlyObservation}
-use Rattle.esc_feedback.specs.declared.outstanding.EarlyObservation.the-variants as early
 use Rattle.esc_feedback.specs.declared.outstanding.PendingRequest.{PendingRequest}
 use Rattle.esc_feedback.specs.declared.outstanding.PendingRequest.the-variants as pending
 use Rattle.esc_feedback.specs.declared.manager.EscManager.{EscManager}
@@ -40,35 +35,13 @@ module _ (m : EscManager) (a : EscActuatorAck) where
   unfolding onAck
   ack-else h = ack-else-on heard a (m .outstanding .pending) h
 
-  pub ack-closed : m .outstanding .pending ≡ pending.None → onAck m a ≡ rejectedAck heard
-  unfolding onAck ackOn
-  ack-closed e = ap (ackOn heard a) e
-
-  module _ (q : EscActuatorRequest) (t : ℕ) where
-    pub ack-again : m .outstanding .pending ≡ pending.Started q t → onAck m a ≡ rejectedAck heard
+  module _ (q : EscActuatorRequest) (t : ℕ) (held : EarlyObservation) (e : m .outstanding .pending ≡ pending.Queued q t held) where
+    ack-queued : onAck m a ≡ pick (sameRequest (a .request) q) (startedBy heard q (a .«started_at_ms») held) (rejectedAck heard)
     unfolding onAck ackOn
-    ack-again e = ap (ackOn heard a) e
+    ack-queued = ap (ackOn heard a) e
 
-    module _ (held : EarlyObservation) (e : m .outstanding .pending ≡ pending.Queued q t held) where
-      ack-queued : onAck m a ≡ pick (sameRequest (a .request) q) (startedBy heard q (a .«started_at_ms») held) (rejectedAck heard)
-      unfolding onAck ackOn
-      ack-queued = ap (ackOn heard a) e
+    pub ack-other : sameRequest (a .request) q ≡ false → onAck m a ≡ rejectedAck heard
+    ack-other s = rw s at ack-queued
 
-      pub ack-other : sameRequest (a .request) q ≡ false → onAck m a ≡ rejectedAck heard
-      ack-other s = rw s at ack-queued
-
-      pub ack-same : sameRequest (a .request) q ≡ true → onAck m a ≡ startedBy heard q (a .«started_at_ms») held
-      ack-same s = rw s at ack-queued
-
-    -- the two cases of `startedBy`
-    pub ack-accepted : m .outstanding .pending ≡ pending.Queued q t early.None → sameRequest (a .request) q ≡ true
-        → onAck m a ≡ record {
-          manager = setOutstanding (startedOutstanding q (a .«started_at_ms»)) (counting requestsStarted heard);
-          answer =
-              outcome.Accepted;
-        }
-    ack-accepted e s = ack-same early.None e s
-
-    pub ack-sample : (o : EscTelemetryObservation) → m .outstanding .pending ≡ pending.Queued q t (early.Some o) → sameRequest (a .request) q ≡ true
-        → onAck m a ≡ record { manager = closedBySample (counting requestsStarted heard); answer = outcome.Sample (updateOf q o) }
-    ack-sample o e s = ack-same (early.Some o) e s
+    pub ack-same : sameRequest (a .request) q ≡ true → onAck m a ≡ startedBy heard q (a .«started_at_ms») held
+    ack-same s = rw s at ack-queued

@@ -1,18 +1,14 @@
 -- 01 and 02, one law for each case.
-use mathlib.Core.Path.{_≡_, refl, ap, sym, _∙_}
-use mathlib.Core.Bool.{Bool, true, false, and-false, true≢false}
+use mathlib.Core.Path.{_≡_}
+use mathlib.Core.Bool.{true, false, and-false}
 use Prim.Native.Nat.{ℕ}
-use Rattle.base.specs.Choice.{pick}
 use Rattle.base.specs.Due.{due}
 use Rattle.esc_feedback.specs.Turn.{turnRequest, periodDue}
 use Rattle.esc_feedback.specs.Outstanding.{isOpen}
 use Rattle.esc_feedback.specs.Queueing.{requestExists, nextRequest, isWanted, granted, yes, no, markQueued}
 use Rattle.esc_lanes.specs.declared.request.EscActuatorRequest.{EscActuatorRequest}
-use Rattle.esc_feedback.specs.declared.answer.NextRequest.{NextRequest}
 use Rattle.esc_feedback.specs.declared.answer.NextRequest.the-variants as next
 use Rattle.esc_feedback.specs.declared.manager.EscManager.{EscManager}
-use Rattle.esc_feedback.specs.declared.manager.queueing.Marked.{Marked}
-use Rattle.esc_lanes.proofs.RequestLaws.{same-equal, same-itself}
 
 module _ (m : EscManager) (now : ℕ) where
   pub none-faulted : m .fault .faulted ≡ true → nextRequest m now ≡ next.None
@@ -47,20 +43,3 @@ module _ (m : EscManager) (now : ℕ) where
       → markQueued m q now ≡ no m
   unfolding markQueued
   marked-no q e = rw e
-
-  -- 02 says yes exactly when it names the request that exists
-  module _ (q : EscActuatorRequest) where
-    pub marked-if : nextRequest m now ≡ next.Some q → markQueued m q now ≡ yes (granted m q now)
-    marked-if e = marked-yes q (ap (isWanted q) e ∙ same-itself q)
-
-    pub marked-only-if : markQueued m q now .answer ≡ true → nextRequest m now ≡ next.Some q
-    unfolding markQueued
-    marked-only-if e = go (nextRequest m now) (named (isWanted q (nextRequest m now)) e)
-      where
-        named : (b : Bool) → pick {A = Marked} b (yes (granted m q now)) (no m) .answer ≡ true → b ≡ true
-        named true e = refl
-        named false e = e
-
-        go : (n : NextRequest) → isWanted q n ≡ true → n ≡ next.Some q
-        go next.None e = absurd (true≢false (sym e))
-        go (next.Some wanted) e = ap next.Some (sym (same-equal q wanted e))

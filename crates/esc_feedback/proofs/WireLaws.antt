@@ -58,21 +58,3 @@ module _ (m : EscManager) (byte at : ℕ) where
   pub pushed-sample : (sample : EscTelemetry) → pushOf (m .parser) byte .parsed ≡ Sample sample → pushWire m byte at ≡ frameTaken (refreshed taken) sample at
   unfolding pushWire receivedOn
   pushed-sample sample e = ap (receivedOn taken at) e
-
-  -- what a sample comes to, by the state of the request
-  module _ (sample : EscTelemetry) (g : pushOf (m .parser) byte .parsed ≡ Sample sample) where
-    pub pushed-unsolicited : m .outstanding .pending ≡ pending.None
-        → pushWire m byte at ≡ record { manager = counting unsolicitedFrames (refreshed taken); answer = update.None }
-    pushed-unsolicited e = pushed-sample sample g ∙ framed-unsolicited (refreshed taken) sample at e
-
-    module _ (q : EscActuatorRequest) (t : ℕ) where
-      pub pushed-held : (held : EarlyObservation) → m .outstanding .pending ≡ pending.Queued q t held
-          → pushWire m byte at ≡ record {
-            manager = setOutstanding (queuedOutstanding q t (early.Some (observationOf q sample at))) (refreshed taken);
-            answer = update.None;
-          }
-      pushed-held held e = pushed-sample sample g ∙ framed-held (refreshed taken) sample at q t held e
-
-      pub pushed-delivered : m .outstanding .pending ≡ pending.Started q t
-          → pushWire m byte at ≡ record { manager = closedBySample (refreshed taken); answer = update.Some (updateOf q (observationOf q sample at)) }
-      pushed-delivered e = pushed-sample sample g ∙ framed-delivered (refreshed taken) sample at q t e

@@ -1,5 +1,6 @@
 -- The counts of `EscManagerStats`, in its order.
 use Prim.Native.Nat.{ℕ, _+_, _%_, _^_}
+use Rattle.blheli_telemetry.specs.Parser.{noCounts}
 use Rattle.blheli_telemetry.specs.declared.parser.ParserStats.{ParserStats}
 use Rattle.esc_feedback.specs.declared.stats.EscManagerStats.{EscManagerStats}
 
@@ -21,7 +22,7 @@ statsOf queued started ackTimeouts responseTimeouts mismatched unsolicited recov
     }
 
 abbrev pub noStats : EscManagerStats
-noStats = statsOf 0 0 0 0 0 0 0 (record { «valid_frames» = 0; «crc_failures» = 0; «discarded_bytes» = 0 })
+noStats = statsOf 0 0 0 0 0 0 0 noCounts
 
 -- a change to each of the seven own counts
 abbrev pub changed : (queued started ackTimeouts responseTimeouts mismatched unsolicited recoveries : ℕ → ℕ) → EscManagerStats → EscManagerStats

@@ -20,11 +20,7 @@ impl EscManagerStats {
     pub fn new() -> Self
         ensures { λ r. ⌜ r ≡ noStats ⌝ }
     {
-        let wire = ParserStats {
-            valid_frames: 0,
-            crc_failures: 0,
-            discarded_bytes: 0,
-        };
+        let wire = ParserStats::new();
         Self {
             requests_queued: 0,
             requests_started: 0,
@@ -47,7 +43,7 @@ impl EscManagerStats {
     }
 }
 
-// The manager's own counts wrap; only the parser's saturate.
+// A count and one more. The manager's own wrap; only the parser's saturate.
 pub fn one_more(count: u32) -> u32
     ensures { λ r. ⌜ r ≡ more count ⌝ }
 {

@@ -1,16 +1,12 @@
 -- Each case of one lane, and what a pass over the lanes says of each of them.
 use mathlib.Core.Path.{_≡_, refl, ap}
 use mathlib.Core.Bool.{Bool, true, false}
-use mathlib.Core.List.{List, [], _∷_}
-use Prim.Native.Nat.{ℕ, zero, suc, _<_, _≤_}
-use native.Mathlib.Nat.{not-suc-le-zero, le-of-suc-le-suc}
-use lib.ListN.{length}
-use borrow.Author.Tests.{lt-ltb, le-ltb, leb-true}
+use Prim.Native.Nat.{ℕ, _<_, _≤_}
+use borrow.Author.Tests.{lt-ltb, le-ltb}
 use Rattle.base.specs.Choice.{pick}
-use Rattle.base.proofs.Both.{and-left, and-right}
 use Rattle.base.specs.Saturated.{saturated}
 use Rattle.base.specs.Due.{due}
-use Rattle.esc_idle.specs.IdleLane.{clearLane, countUp, countLane, newestExpired, expireLane, enough, everyEnough, countOf}
+use Rattle.esc_idle.specs.IdleLane.{clearLane, countUp, countLane, newestExpired, expireLane}
 use Rattle.esc_lanes.specs.declared.request.EscTelemetryObservation.{EscTelemetryObservation}
 use Rattle.esc_idle.specs.declared.idle_lane.Newest.the-variants.{None, At}
 use Rattle.esc_idle.specs.declared.idle_lane.IdleLane.{IdleLane}
@@ -42,10 +38,3 @@ module _ (age now : ℕ) (l : IdleLane) where
   pub expire-kept : newestExpired age now (l .newest) ≡ false → expireLane age now l ≡ l
   unfolding expireLane
   expire-kept e = ap (λ (b : Bool). pick b clearLane l) e
-
--- where every lane has enough, each has
-pub every-at : (required : ℕ) (ls : List IdleLane) → everyEnough required ls ≡ true → (k : ℕ) → k < length ls → required ≤ countOf ls k
-unfolding everyEnough
-every-at required [] e k h = absurd (not-suc-le-zero h)
-every-at required (l ∷ ls) e zero h = leb-true _ _ (and-left (enough required l) (everyEnough required ls) e)
-every-at required (l ∷ ls) e (suc k) h = every-at required ls (and-right (enough required l) (everyEnough required ls) e) k (le-of-suc-le-suc h)

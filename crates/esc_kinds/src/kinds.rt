@@ -59,7 +59,7 @@ pub fn step(manager: EscManager, books: Books, record: Record) -> Stepped
     }
 }
 
-// 00
+// 00: everything anew.
 fn start_anew(config: EscManagerConfig, boot_started_ms: u64) -> Stepped
     ensures { λ r. ⌜ r ≡ stepped (newManager config «boot_started_ms») noBooks Answer.Done ⌝ }
 {

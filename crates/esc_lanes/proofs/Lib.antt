@@ -1,3 +1,2 @@
--- Read in this order: laws on lanes; on requests.
+-- Laws on lanes.
 pub mod OutputLaws
-pub mod RequestLaws

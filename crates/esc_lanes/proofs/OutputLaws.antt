@@ -1,4 +1,4 @@
--- A lane's number is below 4; it tells the lane, and the number after it the one whose turn is next.
+-- A lane's number is below 4; the number after it tells the lane whose turn is next.
 use mathlib.Core.Path.{_≡_, refl}
 use Prim.Native.Nat.{ℕ, _+_, _<_, _≤_}
 use lib.Dec.{lit<}
@@ -12,12 +12,6 @@ lane-below Output1 = lit< tt
 lane-below Output2 = lit< tt
 lane-below Output3 = lit< tt
 lane-below Output4 = lit< tt
-
-pub number-back : (l : Lane) → outputAt (laneNumber l) ≡ record { 0 = l }
-number-back Output1 = refl
-number-back Output2 = refl
-number-back Output3 = refl
-number-back Output4 = refl
 
 pub after-number : (l : Lane) → outputAt (laneNumber l + 1) ≡ record { 0 = laneAfter l }
 after-number Output1 = refl

@@ -26,7 +26,7 @@ pub struct EscTelemetryUpdate {
 }
 
 impl EscActuatorRequest {
-    // Whether an acknowledgement names this request: same sequence and lane.
+    // Whether both are one request: same sequence and lane.
     pub fn same(self, other: EscActuatorRequest) -> bool
         ensures { λ r. ⌜ r ≡ sameRequest self other ⌝ }
     {

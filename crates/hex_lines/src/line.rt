@@ -13,9 +13,10 @@ use crate::pair::value;
 
 pub const LINE_END: u8 = b'\n';
 
-// The widest line, and the longest record.
+// The widest line: two characters for each byte of the longest record.
 const WIDEST: usize = 58;
 
+// As many bytes as any record has.
 pub const LONGEST_RECORD: usize = 29;
 
 pub enum LineRead {

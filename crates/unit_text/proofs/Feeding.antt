@@ -18,7 +18,7 @@ use Rattle.hex_lines.specs.Line.{lineEnd, readLine, printedLine, longestRecord,
 use Rattle.unit_text.specs.Session.{answerOn, answerLine, unitAfter, lineText}
 use Rattle.unit_text.specs.Stream.{Streamed, after, printed, taken, feedOf, fedOutput, longestLine}
 use Rattle.hex_lines.specs.NextLine.{firstLine, BufferHolds}
-use Rattle.unit_text.specs.Answering.{Answers, PrintedAt}
+use Rattle.unit_text.specs.Answering.{Answers, LinePut}
 use Rattle.record_lines.specs.NextRecord.{RecordEnded}
 use Rattle.base.proofs.PutLaws.{overwrite-none}
 use Rattle.hex_lines.proofs.Unended.{Unended}
@@ -146,7 +146,7 @@ module _ {s : Streamed} {chunk out₀ : List ℕ} {unit : Unit} {line : List ℕ
     -- a line, answered
     module _ (next : ℕ) (ended : length (firstLine left) < length left) (behind : next ≡ length (firstLine left) + 1)
         (unit′ : Unit) (reply : List ℕ) (e : Answers unit (readLine (begun ++ firstLine left)) unit′ reply)
-        (written′ : ℕ) (out′ : List ℕ) (p : PrintedAt reply written out written′ out′) where
+        (written′ : ℕ) (out′ : List ℕ) (p : LinePut reply written out written′ out′) where
       abbrev more : List ℕ
       more = firstLine left
 
@@ -222,7 +222,7 @@ pub feeding-record : {s : Streamed} {chunk out₀ : List ℕ} {unit : Unit} {lin
     {admission : Reply Record} {next : ℕ} {line′ bytes′ : List ℕ} {unit′ : Unit} {said : List ℕ} {written′ : ℕ} {out′ : List ℕ}
     → Feeding s chunk out₀ unit line held bytes out used written → longestLine ≤ length out₀ - written
     → RecordEnded (unit .opened) (take held line) (drop used chunk) admission next line′
-    → Answers unit (readLine (take held line ++ firstLine (drop used chunk))) unit′ said → PrintedAt said written out written′ out′
+    → Answers unit (readLine (take held line ++ firstLine (drop used chunk))) unit′ said → LinePut said written out written′ out′
     → length out′ ≡ length out → length bytes′ ≡ longestRecord
     → Feeding s chunk out₀ unit′ line′ 0 bytes′ out′ (used + next) written′
 feeding-record k roomy ended answers printed kept b =

@@ -13,11 +13,7 @@ use Rattle.unit_text.specs.Stream.{Streamed, afterOne, after, printed, t
 use Rattle.hex_lines.proofs.HeldEnough.{enough-more}
 use Rattle.unit_text.proofs.HeldAnswer.{enough-unit, enough-text}
 use Rattle.hex_lines.proofs.Unended.{Unended}
-use Rattle.unit_text.proofs.StreamLaws.{after-append, printed-append, after-end, printed-end, after-other, printed-other}
-
--- a stream that has passed `line`, of a line that is not ended
-abbrev passed : Unit → List ℕ → Streamed
-passed u line = record { unit = u; line = take mostHeld line }
+use Rattle.unit_text.proofs.StreamLaws.{passed, after-append, printed-append, after-end, printed-end, after-other, printed-other}
 
 past : (u : Unit) (line more : List ℕ) → Unended more → after (passed u line) more ≡ passed u (line ++ more)
 unfolding after

@@ -16,7 +16,7 @@ use Rattle.unit_text.specs.Stream.{Streamed, Taken, atStart, after, prin
 use Rattle.base.proofs.PutLaws.{overwrite-none}
 use Rattle.unit_text.proofs.StreamLaws.{after-on, printed-append, end-length}
 use Rattle.unit_text.proofs.SessionLaws.{streamed-session}
-use Rattle.base.proofs.HandLaws.{fits-reply, fits-output, short-reply}
+use Rattle.base.proofs.HandLaws.{fits-reply, fits-output, short-reply, told-length}
 use Rattle.unit_text.proofs.FedLaws.{fed-stream, fed-written, fed-within, fed-some, fed-fits, fed-text}
 
 pub record Passing (text out₀ : List ℕ) (writes : Bool) (s : Streamed) (piece out : List ℕ) (used written : ℕ) : Type 0 where
@@ -144,7 +144,7 @@ module _ {text out₀ : List ℕ} {writes : Bool} {s : Streamed} {piece out : Li
     end-fits = omega (arith, end-length s, k .room)
 
     pub end-count : (n : ℕ) → accepted n ≡ handedReply (printedAtEnd s) (length piece) → n ≡ length (printedAtEnd s)
-    end-count n e = let q : accepted n ≡ accepted (length (printedAtEnd s)) = e ∙ fits-reply (printedAtEnd s) piece end-fits in cc
+    end-count n e = told-length (printedAtEnd s) piece n e
 
     pub end-written : refused 9 ≡ handedReply (printedAtEnd s) (length piece) → ⊥
     end-written e =

@@ -14,11 +14,7 @@ use Rattle.unit_text.specs.Stream.{Streamed, atStart, afterOne, printedA
 use Rattle.hex_lines.proofs.HeldEnough.{enough-more}
 use Rattle.unit_text.proofs.HeldAnswer.{enough-unit, enough-text}
 use Rattle.unit_text.proofs.LinesLaws.{lines-at-end, lines-at-other}
-use Rattle.unit_text.proofs.StreamLaws.{after-end, printed-end, after-other, printed-other}
-
--- a stream that has passed `line`, of a line that is not ended
-abbrev passed : Unit → List ℕ → Streamed
-passed u line = record { unit = u; line = take mostHeld line }
+use Rattle.unit_text.proofs.StreamLaws.{passed, after-end, printed-end, after-other, printed-other}
 
 abbrev all : Streamed → List ℕ → List ℕ
 all s text = printed s text ++ printedAtEnd (after s text)

@@ -1,14 +1,13 @@
 -- A stream of characters: it does not matter in which chunks they come.
-use mathlib.Core.Path.{_≡_, refl, sym, _∙_}
+use mathlib.Core.Path.{_≡_, refl, sym}
 use mathlib.Core.Bool.{Bool, true, false}
-use mathlib.Core.List.{List, [], _∷_, _++_, append-nil, append-assoc}
-use Prim.Native.Nat.{ℕ, _+_, _≤_, _<_}
+use mathlib.Core.List.{List, [], _∷_, _++_, append-assoc}
+use Prim.Native.Nat.{ℕ, _+_, _≤_}
 use native.Mathlib.Omega.{arith}
-use native.Mathlib.Numerals.{add-one}
 use borrow.Author.Tests.{eq-eqb, ne-eqb}
 use lib.Dec.{eqb}
-use lib.ListN.{length, getD, take, drop}
-use lib.Seq.{take-suc, take-add}
+use lib.ListN.{length, take, drop}
+use lib.Seq.{take-add}
 use Rattle.base.specs.Choice.{pick}
 use Rattle.esc_answers.specs.Answer.{replyBytes}
 use Rattle.esc_unit.specs.declared.unit.Unit.{Unit}
@@ -17,6 +16,10 @@ use Rattle.unit_text.specs.Session.{answerLine, unitAfter, lineText}
 use Rattle.unit_text.specs.Stream.{Streamed, afterOne, printedAt, after, printed, printedAtEnd, longestLine}
 use Rattle.unit_text.proofs.AnswerLength.{reply-length}
 use Rattle.hex_lines.proofs.PrintLaws.{printed-length}
+
+-- a stream that has passed `line`, of a line that is not ended
+abbrev pub passed : Unit → List ℕ → Streamed
+passed u line = record { unit = u; line = take mostHeld line }
 
 -- chunks do not matter
 pub after-append : (s : Streamed) (a b : List ℕ) → after s (a ++ b) ≡ after (after s a) b
@@ -49,18 +52,6 @@ module _ (s : Streamed) (c : ℕ) where
   pub printed-other : (c ≡ lineEnd → ⊥) → printedAt s c ≡ []
   unfolding printedAt
   printed-other n = rw (ne-eqb c lineEnd n)
-
--- one character more
-module _ (s : Streamed) (text : List ℕ) (i : ℕ) (h : i < length text) where
-  pub after-more : after s (take (i + 1) text) ≡ afterOne (after s (take i text)) (getD text i 0)
-  unfolding after
-  after-more = rw (add-one i, take-suc text i 0 h) (after-append s (take i text) (getD text i 0 ∷ []))
-
-  pub printed-more : printed s (take (i + 1) text) ≡ printed s (take i text) ++ printedAt (after s (take i text)) (getD text i 0)
-  unfolding printed
-  printed-more =
-      rw (add-one i, take-suc text i 0 h)
-      (printed-append s (take i text) (getD text i 0 ∷ []) ∙ rw (append-nil (printedAt (after s (take i text)) (getD text i 0))))
 
 -- no printed line takes more than 87 characters
 pub line-length : (u : Unit) (line : List ℕ) → length (lineText u line) ≤ longestLine

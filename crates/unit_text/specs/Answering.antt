@@ -16,6 +16,6 @@ pub record Answers (u : Unit) (line : Reply (List ℕ)) (after : Unit) (said : L
   pub bytes : said ≡ replyBytes (answerOn u line .reply)
 
 -- bytes on a line of their own, from the place `at` on, and the place behind it
-pub record PrintedAt (said : List ℕ) (at : ℕ) (out : List ℕ) (behind : ℕ) (out′ : List ℕ) : Type 0 where
+pub record LinePut (said : List ℕ) (at : ℕ) (out : List ℕ) (behind : ℕ) (out′ : List ℕ) : Type 0 where
   pub next : behind ≡ at + length (printedLine said)
   pub text : out′ ≡ overwrite at (printedLine said) out

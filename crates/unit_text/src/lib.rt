@@ -1,7 +1,7 @@
 // Sessions of the ESC telemetry unit as text: a record in hexadecimal on each line, an answer in
 // hexadecimal on a line for each.
 mod answer;
-mod hand;
+mod piece;
 mod stream;
 mod whole_session;
 

@@ -1,22 +1,21 @@
 // A session fed in chunks of any size. Between two chunks it keeps the unit and the start of the line
 // that is not ended: the same memory for a line of any width.
 ghost use mathlib.Core.Path.{_≡_};
-ghost use Prim.Native.Nat.{min};
 ghost use lib.ListN.{length};
 ghost use Rattle.base.specs.Handed.{handedReply, handedOutput, handed};
 ghost use Rattle.unit_text.specs.Stream.{atStart, feedOf, fedOutput, printedAtEnd};
 ghost use Rattle.unit_text.specs.Streams.{streamed, fed};
-ghost use Rattle.hex_lines.specs.Line.{mostHeld};
+use crate::answer::print_answer;
 use crate::answer::print_flag;
 use crate::answer::print_refusal;
-use crate::answer::print_text;
 use base::Handed;
 use base::hand;
+use base::smaller;
 use esc_answers::Delivered;
-use esc_answers::answer_text;
-use esc_answers::delivered_text;
-use esc_answers::next_text;
-use esc_answers::timeout_text;
+use esc_answers::encode_answer;
+use esc_answers::encode_delivered;
+use esc_answers::encode_next;
+use esc_answers::encode_timeout;
 use esc_feedback::EscAckOutcome;
 use esc_feedback::WireUpdate;
 use esc_kinds::step;
@@ -75,7 +74,7 @@ impl Stream {
         let mut manager = self.unit.manager;
         let mut books = self.unit.books;
         let mut line = self.line;
-        let mut held = at_most_held(self.held);
+        let mut held = smaller(self.held, HELD);
         let mut used: usize = 0;
         let mut written: usize = 0;
         while used < chunk.len() {
@@ -115,7 +114,7 @@ impl Stream {
                     match record {
                         Record::NextRequest { now_ms } => {
                             let request = manager.next_request(now_ms);
-                            written = print_text(next_text(request), out, written);
+                            written = print_answer(encode_next(request), out, written);
                         }
                         Record::MarkRequestQueued { request, now_ms } => {
                             let marked = manager.mark_request_queued(request, now_ms);
@@ -137,8 +136,8 @@ impl Stream {
                                     let booked = books.booked(update, now_ms);
                                     books = booked.books;
                                     let status = booked.status;
-                                    let text = delivered_text(Delivered { update, status });
-                                    written = print_text(text, out, written);
+                                    let encoded = encode_delivered(Delivered { update, status });
+                                    written = print_answer(encoded, out, written);
                                 }
                             }
                         }
@@ -146,7 +145,7 @@ impl Stream {
                             let polled = manager.poll_timeout(now_ms);
                             manager = polled.manager;
                             let timeout = polled.answer;
-                            written = print_text(timeout_text(timeout), out, written);
+                            written = print_answer(encode_timeout(timeout), out, written);
                         }
                         Record::WireByte {
                             byte,
@@ -163,8 +162,8 @@ impl Stream {
                                     let booked = books.booked(update, observed_at_ms);
                                     books = booked.books;
                                     let status = booked.status;
-                                    let text = delivered_text(Delivered { update, status });
-                                    written = print_text(text, out, written);
+                                    let encoded = encode_delivered(Delivered { update, status });
+                                    written = print_answer(encoded, out, written);
                                 }
                             }
                         }
@@ -174,7 +173,7 @@ impl Stream {
                             manager = stepped.manager;
                             books = stepped.books;
                             let answer = stepped.answer;
-                            written = print_text(answer_text(answer), out, written);
+                            written = print_answer(encode_answer(answer), out, written);
                         }
                     }
                 }
@@ -207,11 +206,4 @@ impl Stream {
         let fed = self.feed(&end, &mut text);
         hand(&text, fed.written, out)
     }
-}
-
-// A line's buffer has no more than it can hold.
-fn at_most_held(n: usize) -> usize
-    ensures { λ r. ⌜ r ≡ min n mostHeld ⌝ }
-{
-    if n < HELD { n } else { HELD }
 }

@@ -7,7 +7,7 @@ ghost use Rattle.base.specs.Choice.{pick};
 ghost use Rattle.base.specs.BigEndian.{overwrite};
 ghost use Rattle.unit_text.specs.Session.{sessionText};
 ghost use Rattle.base.specs.Handed.{handedReply, handedOutput, handed};
-use crate::hand::copy_if;
+use crate::piece::copy_if;
 use crate::stream::Stream;
 use base::Handed;
 

@@ -1,18 +1,17 @@
 // Unit::call: a record's bytes in, its answer's bytes out.
-ghost use Prim.Native.Nat.{_≤_};
 use crate::print;
+use base::smaller;
+use esc_answers::LONGEST_ANSWER;
 use esc_unit::CallReply;
 use esc_unit::Unit;
 
-// As much as any answer takes, and what stands there before a call.
-const ROOM: usize = 43;
-
+// What stands in the output before a call.
 const FOUND: u8 = 0xa5;
 
 // The unit after a call, which is printed with its answer.
 pub fn call(unit: Unit, room: usize, record: &[u8]) -> Unit {
-    let mut out = [FOUND; ROOM];
-    let most = at_most(room);
+    let mut out = [FOUND; LONGEST_ANSWER];
+    let most = smaller(room, LONGEST_ANSWER);
     call_in(unit, record, &mut out[0..most])
 }
 
@@ -32,15 +31,9 @@ fn show(record: &[u8], reply: CallReply, out: &[u8]) {
         CallReply::Written(n) => print::front(out, n),
         CallReply::Refused(number) => print::refused(number),
     }
-    if out.len() < ROOM {
+    if out.len() < LONGEST_ANSWER {
         print::text(b", room ");
         print::bytes(out);
     }
     print::text(b"\n");
-}
-
-fn at_most(room: usize) -> usize
-    ensures { λ r. ⌜ r ≤ 43 ⌝ }
-{
-    if room < ROOM { room } else { ROOM }
 }

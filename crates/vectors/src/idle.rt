@@ -1,6 +1,7 @@
 // The idle check's verdict and counts after each sample: its time, its eRPM/100 and the four counts. What is
 // expected is what esc_manager.rs gave.
 use crate::print;
+use base::wide;
 use blheli_telemetry::EscTelemetry;
 use esc_idle::EscIdleQualification;
 use esc_idle::EscIdleQualificationConfig;
@@ -75,10 +76,6 @@ fn observe(
         ],
     );
     after
-}
-
-fn wide(count: u8) -> u64 {
-    count as u64
 }
 
 fn update(lane: Lane, erpm_div100: u16, at_ms: u64) -> EscTelemetryUpdate {

@@ -61,8 +61,8 @@ fn each(records: &[u8]) {
     let mut unit = Unit::new();
     let mut at: usize = 0;
     while records.len() - at > 1 {
-        let room = wide(records[at]);
-        let n = wide(records[at + 1]);
+        let room = count(records[at]);
+        let n = count(records[at + 1]);
         at += 2;
         if records.len() - at < n {
             return;
@@ -75,6 +75,6 @@ fn each(records: &[u8]) {
     }
 }
 
-fn wide(byte: u8) -> usize {
+fn count(byte: u8) -> usize {
     byte as usize
 }

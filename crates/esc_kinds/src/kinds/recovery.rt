@@ -23,7 +23,7 @@ pub fn try_recover(manager: EscManager, books: Books, armed: bool, now_ms: u64) 
     )
 }
 
-// 08
+// 08: hands out how many retries the latest sample ended, once.
 pub fn take_back_after_retries(manager: EscManager, books: Books) -> Stepped
     ensures { λ r. ⌜ r ≡ stepOf manager books Record.TakeBackAfterRetries ⌝ }
 {

@@ -36,7 +36,7 @@ pub fn idle_status(manager: EscManager, books: Books, now_ms: u64) -> Stepped
     answered(manager, booked.books, Answer::Idle(status))
 }
 
-// 0c
+// 0c: what the manager counts, and whether it is faulted or retrying.
 pub fn report(manager: EscManager, books: Books) -> Stepped
     ensures { λ r. ⌜ r ≡ stepOf manager books Record.Report ⌝ }
 {
@@ -49,7 +49,7 @@ pub fn report(manager: EscManager, books: Books) -> Stepped
     answered(manager, books, Answer::Report(report))
 }
 
-// 0d
+// 0d: the lane's newest delivered sample.
 pub fn stored_sample(manager: EscManager, books: Books, output: EscOutput) -> Stepped
     ensures { λ r. ⌜ r ≡ stepOf manager books (Record.StoredSample output) ⌝ }
 {
@@ -57,7 +57,7 @@ pub fn stored_sample(manager: EscManager, books: Books, output: EscOutput) -> St
     answered(manager, books, Answer::Stored(stored))
 }
 
-// 0e
+// 0e: how many samples the lane had, its hottest and its lowest voltage.
 pub fn figures(manager: EscManager, books: Books, output: EscOutput) -> Stepped
     ensures { λ r. ⌜ r ≡ stepOf manager books (Record.Figures output) ⌝ }
 {

@@ -14,7 +14,7 @@ use esc_lanes::EscActuatorRequest;
 use esc_lanes::EscTelemetryUpdate;
 use esc_records::Record;
 
-// 01
+// 01: which request is wanted now; nothing changes.
 pub fn next_request(manager: EscManager, books: Books, now_ms: u64) -> Stepped
     ensures { λ r. ⌜ r ≡ stepOf manager books (Record.NextRequest «now_ms») ⌝ }
 {
@@ -22,7 +22,7 @@ pub fn next_request(manager: EscManager, books: Books, now_ms: u64) -> Stepped
     answered(manager, books, Answer::Request(request))
 }
 
-// 02
+// 02: a request was queued, if it is the one wanted.
 pub fn mark_request_queued(
     manager: EscManager,
     books: Books,
@@ -62,7 +62,7 @@ fn ack_sample(manager: EscManager, books: Books, update: EscTelemetryUpdate, now
     answered(manager, booked.books, Answer::Ack(ack))
 }
 
-// 04
+// 04: the open request is given up once its time is over.
 pub fn poll_timeout(manager: EscManager, books: Books, now_ms: u64) -> Stepped
     ensures { λ r. ⌜ r ≡ stepOf manager books (Record.PollTimeout «now_ms») ⌝ }
 {

@@ -38,14 +38,14 @@ fn wire_sample(
     answered(manager, booked.books, Answer::Wire(wire))
 }
 
-// 06
+// 06: the wire was cut.
 pub fn record_wire_discontinuity(manager: EscManager, books: Books) -> Stepped
     ensures { λ r. ⌜ r ≡ stepOf manager books Record.WireDiscontinuity ⌝ }
 {
     answered(manager.record_wire_discontinuity(), books, Answer::Done)
 }
 
-// 09
+// 09: the report's copy of the parser's counts is renewed.
 pub fn refresh_wire_stats(manager: EscManager, books: Books) -> Stepped
     ensures { λ r. ⌜ r ≡ stepOf manager books Record.RefreshWireStats ⌝ }
 {

@@ -3,8 +3,8 @@ use borrow.Author.Needs.{needs}
 use Rattle.esc_answers.proofs.write.write_answer.Statement.{statement}
 use Rattle.esc_answers.proofs.write.write_answer.Tie as tie
 
-answer-text-requires : tie.Need-answer-text-requires
-answer-text-requires c κs = search needs
+encode-answer-requires : tie.Need-encode-answer-requires
+encode-answer-requires c κs = search needs
 
 slice-aggregate-hand : tie.Need-slice-aggregate-hand
 slice-aggregate-hand c = search needs
@@ -17,10 +17,10 @@ same-length c = search needs
 
 returns : tie.Need-returns
 returns c =
-    let bytes = c .before .before .before .before .before .before .answer-text .ensures .1 in
+    let bytes = c .before .before .before .before .before .before .encode-answer .ensures .1 in
     rw (← bytes) (c .before .before .hand .ensures)
 
 pub write-answer-spec : {M : Type 1} → statement M
 write-answer-spec =
     tie.close
-    (tie.spec answer-text-requires slice-aggregate-hand hand-requires same-length returns)
+    (tie.spec encode-answer-requires slice-aggregate-hand hand-requires same-length returns)

@@ -1,27 +1,14 @@
 -- What is written is within the output, and is what the stream prints at the end.
 use borrow.Author.Needs.{needs}
 use native.Mathlib.Omega.{arith}
-use mathlib.Core.Path.{_≡_, sym, ap, _∙_}
-use mathlib.Core.List.{List}
-use Prim.Native.Nat.{ℕ, _≤_}
-use lib.ListN.{length, take}
+use mathlib.Core.Path.{sym, ap, _∙_}
 use lib.Seq.{length-take-le}
-use Rattle.base.specs.Reply.{accepted}
-use Rattle.base.proofs.BigEndianLaws.{overwrite-front}
-use Rattle.base.specs.Handed.{handedReply, handedOutput, handed}
+use Rattle.base.specs.Handed.{handed}
 use Rattle.unit_text.specs.Stream.{printedAtEnd}
 use Rattle.unit_text.specs.Streams.{streamed}
-use Rattle.base.proofs.HandLaws.{told-fits, told-within, fits-reply, fits-output}
+use Rattle.base.proofs.HandLaws.{told-within, told-text}
 use Rattle.unitlines.proofs.session.finish.Statement.{statement}
 use Rattle.unitlines.proofs.session.finish.Tie as tie
-
--- a text that was handed over stands in front of the output
-told-text : (text out out′ : List ℕ) (n : ℕ) → accepted n ≡ handedReply text (length out) → out′ ≡ handedOutput text out → take n out′ ≡ text
-told-text text out out′ n e o =
-    let fits : length text ≤ length out = told-fits text out n e in
-    let q : accepted n ≡ accepted (length text) = e ∙ fits-reply text out fits in
-    let count : n ≡ length text = cc in
-    ap (take n) (o ∙ fits-output text out fits) ∙ overwrite-front text out n (sym count)
 
 finish-requires : tie.Need-finish-requires
 finish-requires c κs = search needs

@@ -43,10 +43,10 @@ abbrev μ-loop : tie.MeasureT-loop
 μ-loop chunk out₀ digits bytes₀ opened₀ manager₀ books₀ line₀ held₀ used₀ written₀ out bytes opened manager books line held used written = length chunk - used
 
 -- no more than the buffer is held, whatever the stream says
-held : (c : tie.After-at-most-held Inv-loop μ-loop) → take (c .before .before .before .before .before .before .before .args .self .held)
+held : (c : tie.After-smaller Inv-loop μ-loop) → take (c .before .before .before .before .before .before .before .args .self .held)
     (c .before .before .before .before .before .before .before .args .self .line)
-    ≡ take (c .at-most-held .result) (c .before .before .before .before .before .before .before .args .self .line)
-held c = held-line _ (c .before .before .before .before .before .before .before .args .self .held) _ (search needs) (c .at-most-held .ensures)
+    ≡ take (c .smaller .result) (c .before .before .before .before .before .before .before .args .self .line)
+held c = held-line _ (c .before .before .before .before .before .before .before .args .self .held) _ (search needs) (c .smaller .ensures)
 
 -- a turn: there is room for any line more
 module _ (t : tie.Else1 Inv-loop μ-loop) where
@@ -140,11 +140,11 @@ module _ (c : tie.After-known-told4 Inv-loop μ-loop) where
 digits-requires : tie.Need-digits-requires Inv-loop μ-loop
 digits-requires c κs = search needs
 
-at-most-held-requires : tie.Need-at-most-held-requires Inv-loop μ-loop
-at-most-held-requires c κs = search needs
+smaller-requires : tie.Need-smaller-requires Inv-loop μ-loop
+smaller-requires c κs = search needs
 
 loop-holds : tie.Need-loop-holds Inv-loop μ-loop
-loop-holds c = feeding-none _ _ _ _ _ _ (search needs) (omega (arith, c .at-most-held .ensures)) (search needs)
+loop-holds c = feeding-none _ _ _ _ _ _ (search needs) (omega (arith, c .smaller .ensures)) (search needs)
 
 sub-if1 : tie.Need-sub-if1 Inv-loop μ-loop
 sub-if1 c = search needs
@@ -286,11 +286,11 @@ enum-known-record c = search needs
 next-request-requires : tie.Need-next-request-requires Inv-loop μ-loop
 next-request-requires c κs = search needs
 
-next-text-requires : tie.Need-next-text-requires Inv-loop μ-loop
-next-text-requires c κs = search needs
+encode-next-requires : tie.Need-encode-next-requires Inv-loop μ-loop
+encode-next-requires c κs = search needs
 
-print-text-requires : tie.Need-print-text-requires Inv-loop μ-loop
-print-text-requires c κs = (answer-fits _ (c .before .next-text .ensures .0), space (c .before .before .before .before .before .before))
+print-answer-requires : tie.Need-print-answer-requires Inv-loop μ-loop
+print-answer-requires c κs = (answer-fits _ (c .before .encode-next .ensures .0), space (c .before .before .before .before .before .before))
 
 loop-less-4 : tie.Need-loop-less-4 Inv-loop μ-loop
 loop-less-4 c = shorter (c .before .before .before .before .before .before .before .before .before)
@@ -302,9 +302,9 @@ loop-again-4 c =
     let l = turn b .before .before .loop in
     (feeding-record (l .inv) (roomy (turn b)) (taken t)
     (answers-next (was (turn b)) (heard (turn b)) _ (takes t _ (c .before .before .before .before .before .before .before .«record» .given .1)))
-    (rw (c .before .before .before .before .next-text .ensures .1, c .before .before .before .before .before .next-request .ensures) at
-    (c .before .before .print-text .ensures))
-    (c .before .before .print-text .kept .1 .0) (bytes-room b))
+    (rw (c .before .before .before .before .encode-next .ensures .1, c .before .before .before .before .before .next-request .ensures) at
+    (c .before .before .print-answer .ensures))
+    (c .before .before .print-answer .kept .1 .0) (bytes-room b))
 
 enum-known-record-2 : tie.Need-enum-known-record-2 Inv-loop μ-loop
 enum-known-record-2 c = search needs
@@ -387,12 +387,12 @@ enum-known-outcome c = search needs
 booked-requires : tie.Need-booked-requires Inv-loop μ-loop
 booked-requires c κs = search needs
 
-delivered-text-requires : tie.Need-delivered-text-requires Inv-loop μ-loop
-delivered-text-requires c κs = search needs
+encode-delivered-requires : tie.Need-encode-delivered-requires Inv-loop μ-loop
+encode-delivered-requires c κs = search needs
 
-print-text-requires-2 : tie.Need-print-text-requires-2 Inv-loop μ-loop
-print-text-requires-2 c κs = (
-  delivered-fits _ (c .before .delivered-text .ensures .0),
+print-answer-requires-2 : tie.Need-print-answer-requires-2 Inv-loop μ-loop
+print-answer-requires-2 c κs = (
+  delivered-fits _ (c .before .encode-delivered .ensures .0),
   space
       (c .before .before .before .before .before .before .before .before .before .before .before .before),
 )
@@ -414,9 +414,9 @@ loop-again-8 c =
     (c .before .before .before .before .before .before .before .before .before .before .before .before .before .record3 .given .1)) _ (rw
     (c .before .before .before .before .before .before .before .before .before .before .before .on-actuator-ack .ensures) at
     (c .before .before .before .before .before .before .before .before .outcome .given .1)))
-    (rw (c .before .before .before .before .delivered-text .ensures .1, c .before .before .before .before .before .before .booked .ensures) at
-    (c .before .before .print-text2 .ensures))
-    (c .before .before .print-text2 .kept .1 .0) (bytes-room b))
+    (rw (c .before .before .before .before .encode-delivered .ensures .1, c .before .before .before .before .before .before .booked .ensures) at
+    (c .before .before .print-answer2 .ensures))
+    (c .before .before .print-answer2 .kept .1 .0) (bytes-room b))
 
 enum-known-record-4 : tie.Need-enum-known-record-4 Inv-loop μ-loop
 enum-known-record-4 c = search needs
@@ -424,11 +424,11 @@ enum-known-record-4 c = search needs
 poll-timeout-requires : tie.Need-poll-timeout-requires Inv-loop μ-loop
 poll-timeout-requires c κs = search needs
 
-timeout-text-requires : tie.Need-timeout-text-requires Inv-loop μ-loop
-timeout-text-requires c κs = search needs
+encode-timeout-requires : tie.Need-encode-timeout-requires Inv-loop μ-loop
+encode-timeout-requires c κs = search needs
 
-print-text-requires-3 : tie.Need-print-text-requires-3 Inv-loop μ-loop
-print-text-requires-3 c κs = (answer-fits _ (c .before .timeout-text .ensures .0), space (c .before .before .before .before .before .before .before))
+print-answer-requires-3 : tie.Need-print-answer-requires-3 Inv-loop μ-loop
+print-answer-requires-3 c κs = (answer-fits _ (c .before .encode-timeout .ensures .0), space (c .before .before .before .before .before .before .before))
 
 loop-less-9 : tie.Need-loop-less-9 Inv-loop μ-loop
 loop-less-9 c = shorter (c .before .before .before .before .before .before .before .before .before .before)
@@ -441,9 +441,9 @@ loop-again-9 c =
     rw (c .before .before .before .before .before .before .poll-timeout .ensures)
     (feeding-record (l .inv) (roomy (turn b)) (taken t)
     (answers-polled (was (turn b)) (heard (turn b)) _ (takes t _ (c .before .before .before .before .before .before .before .before .record4 .given .1)))
-    (rw (c .before .before .before .before .timeout-text .ensures .1, c .before .before .before .before .before .before .poll-timeout .ensures) at
-    (c .before .before .print-text3 .ensures))
-    (c .before .before .print-text3 .kept .1 .0) (bytes-room b))
+    (rw (c .before .before .before .before .encode-timeout .ensures .1, c .before .before .before .before .before .before .poll-timeout .ensures) at
+    (c .before .before .print-answer3 .ensures))
+    (c .before .before .print-answer3 .kept .1 .0) (bytes-room b))
 
 enum-known-record-5 : tie.Need-enum-known-record-5 Inv-loop μ-loop
 enum-known-record-5 c = search needs
@@ -480,12 +480,12 @@ enum-known-update c = search needs
 booked-requires-2 : tie.Need-booked-requires-2 Inv-loop μ-loop
 booked-requires-2 c κs = search needs
 
-delivered-text-requires-2 : tie.Need-delivered-text-requires-2 Inv-loop μ-loop
-delivered-text-requires-2 c κs = search needs
+encode-delivered-requires-2 : tie.Need-encode-delivered-requires-2 Inv-loop μ-loop
+encode-delivered-requires-2 c κs = search needs
 
-print-text-requires-4 : tie.Need-print-text-requires-4 Inv-loop μ-loop
-print-text-requires-4 c κs = (
-  delivered-fits _ (c .before .delivered-text2 .ensures .0),
+print-answer-requires-4 : tie.Need-print-answer-requires-4 Inv-loop μ-loop
+print-answer-requires-4 c κs = (
+  delivered-fits _ (c .before .encode-delivered2 .ensures .0),
   space
       (c .before .before .before .before .before .before .before .before .before .before .before .before),
 )
@@ -507,18 +507,18 @@ loop-again-11 c =
     (c .before .before .before .before .before .before .before .before .before .before .before .before .before .record5 .given .1)) _ (rw
     (c .before .before .before .before .before .before .before .before .before .before .before .push-wire-byte .ensures) at
     (c .before .before .before .before .before .before .before .before .update .given .1)))
-    (rw (c .before .before .before .before .delivered-text2 .ensures .1, c .before .before .before .before .before .before .booked2 .ensures) at
-    (c .before .before .print-text4 .ensures))
-    (c .before .before .print-text4 .kept .1 .0) (bytes-room b))
+    (rw (c .before .before .before .before .encode-delivered2 .ensures .1, c .before .before .before .before .before .before .booked2 .ensures) at
+    (c .before .before .print-answer4 .ensures))
+    (c .before .before .print-answer4 .kept .1 .0) (bytes-room b))
 
 step-requires : tie.Need-step-requires Inv-loop μ-loop
 step-requires c κs = search needs
 
-answer-text-requires : tie.Need-answer-text-requires Inv-loop μ-loop
-answer-text-requires c κs = search needs
+encode-answer-requires : tie.Need-encode-answer-requires Inv-loop μ-loop
+encode-answer-requires c κs = search needs
 
-print-text-requires-5 : tie.Need-print-text-requires-5 Inv-loop μ-loop
-print-text-requires-5 c κs = (answer-fits _ (c .before .answer-text .ensures .0), space (c .before .before .before .before .before .before))
+print-answer-requires-5 : tie.Need-print-answer-requires-5 Inv-loop μ-loop
+print-answer-requires-5 c κs = (answer-fits _ (c .before .encode-answer .ensures .0), space (c .before .before .before .before .before .before))
 
 loop-less-12 : tie.Need-loop-less-12 Inv-loop μ-loop
 loop-less-12 c = shorter (c .before .before .before .before .before .before .before .before .before)
@@ -530,8 +530,8 @@ loop-again-12 c =
     let l = turn b .before .before .loop in
     (feeding-record (l .inv) (roomy (turn b)) (taken t)
     (answers-step (was (turn b)) (heard (turn b)) _ _ (taken t .admitted) (sym (c .before .before .before .before .before .before .before .step .ensures)))
-    (rw (c .before .before .before .before .answer-text .ensures .1) at (c .before .before .print-text5 .ensures))
-    (c .before .before .print-text5 .kept .1 .0) (bytes-room b))
+    (rw (c .before .before .before .before .encode-answer .ensures .1) at (c .before .before .print-answer5 .ensures))
+    (c .before .before .print-answer5 .kept .1 .0) (bytes-room b))
 
 same-length : tie.Need-same-length Inv-loop μ-loop
 same-length c = search needs
@@ -556,7 +556,7 @@ feed-spec =
     Inv-loop
     μ-loop
     digits-requires
-    at-most-held-requires
+    smaller-requires
     loop-holds
     sub-if1
     sub-collected-byte
@@ -590,8 +590,8 @@ feed-spec =
     add-used-4
     enum-known-record
     next-request-requires
-    next-text-requires
-    print-text-requires
+    encode-next-requires
+    print-answer-requires
     loop-less-4
     loop-again-4
     enum-known-record-2
@@ -611,14 +611,14 @@ feed-spec =
     loop-again-7
     enum-known-outcome
     booked-requires
-    delivered-text-requires
-    print-text-requires-2
+    encode-delivered-requires
+    print-answer-requires-2
     loop-less-8
     loop-again-8
     enum-known-record-4
     poll-timeout-requires
-    timeout-text-requires
-    print-text-requires-3
+    encode-timeout-requires
+    print-answer-requires-3
     loop-less-9
     loop-again-9
     enum-known-record-5
@@ -629,13 +629,13 @@ feed-spec =
     loop-again-10
     enum-known-update
     booked-requires-2
-    delivered-text-requires-2
-    print-text-requires-4
+    encode-delivered-requires-2
+    print-answer-requires-4
     loop-less-11
     loop-again-11
     step-requires
-    answer-text-requires
-    print-text-requires-5
+    encode-answer-requires
+    print-answer-requires-5
     loop-less-12
     loop-again-12
     same-length

@@ -5,9 +5,9 @@ use mathlib.Core.Path.{refl}
 use Rattle.esc_answers.specs.Answer.{bodyBytes, answerBytes}
 use Rattle.esc_answers.specs.declared.answer.Answer.the-variants as answer
 use Rattle.esc_answers.proofs.AnswerLaws.{body-at-most}
-use Rattle.esc_answers.proofs.TextLaws.{text-put}
-use Rattle.esc_answers.proofs.text.timeout_text.Statement.{statement}
-use Rattle.esc_answers.proofs.text.timeout_text.Tie as tie
+use Rattle.esc_answers.proofs.EncodedLaws.{encoded-put}
+use Rattle.esc_answers.proofs.encode.encode_timeout.Statement.{statement}
+use Rattle.esc_answers.proofs.encode.encode_timeout.Tie as tie
 
 slice-aggregate-put-timeout : tie.Need-slice-aggregate-put-timeout
 slice-aggregate-put-timeout c = search needs
@@ -18,7 +18,7 @@ put-timeout-requires c κs = record { fits = omega (arith, body-at-most (answer.
 
 returns : tie.Need-returns
 unfolding bodyBytes answerBytes
-returns c = text-put _ _ _ _ refl (c .before .put-timeout .ensures)
+returns c = encoded-put _ _ _ _ refl (c .before .put-timeout .ensures)
 
-pub timeout-text-spec : {M : Type 1} → statement M
-timeout-text-spec = tie.close (tie.spec slice-aggregate-put-timeout put-timeout-requires returns)
+pub encode-timeout-spec : {M : Type 1} → statement M
+encode-timeout-spec = tie.close (tie.spec slice-aggregate-put-timeout put-timeout-requires returns)

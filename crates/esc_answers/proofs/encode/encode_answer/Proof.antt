@@ -4,9 +4,9 @@ use native.Mathlib.Omega.{arith}
 use mathlib.Core.Path.{refl}
 use Rattle.esc_answers.specs.Answer.{answerBytes}
 use Rattle.esc_answers.proofs.AnswerLaws.{body-at-most}
-use Rattle.esc_answers.proofs.TextLaws.{text-put}
-use Rattle.esc_answers.proofs.text.answer_text.Statement.{statement}
-use Rattle.esc_answers.proofs.text.answer_text.Tie as tie
+use Rattle.esc_answers.proofs.EncodedLaws.{encoded-put}
+use Rattle.esc_answers.proofs.encode.encode_answer.Statement.{statement}
+use Rattle.esc_answers.proofs.encode.encode_answer.Tie as tie
 
 slice-aggregate-put-body : tie.Need-slice-aggregate-put-body
 slice-aggregate-put-body c = search needs
@@ -16,7 +16,7 @@ put-body-requires c κs = record { fits = omega (arith, body-at-most (c .before 
 
 returns : tie.Need-returns
 unfolding answerBytes
-returns c = text-put _ _ _ _ refl (c .before .put-body .ensures)
+returns c = encoded-put _ _ _ _ refl (c .before .put-body .ensures)
 
-pub answer-text-spec : {M : Type 1} → statement M
-answer-text-spec = tie.close (tie.spec slice-aggregate-put-body put-body-requires returns)
+pub encode-answer-spec : {M : Type 1} → statement M
+encode-answer-spec = tie.close (tie.spec slice-aggregate-put-body put-body-requires returns)

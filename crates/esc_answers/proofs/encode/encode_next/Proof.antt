@@ -5,9 +5,9 @@ use mathlib.Core.Path.{refl}
 use Rattle.esc_answers.specs.Answer.{bodyBytes, answerBytes}
 use Rattle.esc_answers.specs.declared.answer.Answer.the-variants as answer
 use Rattle.esc_answers.proofs.AnswerLaws.{body-at-most}
-use Rattle.esc_answers.proofs.TextLaws.{text-put}
-use Rattle.esc_answers.proofs.text.next_text.Statement.{statement}
-use Rattle.esc_answers.proofs.text.next_text.Tie as tie
+use Rattle.esc_answers.proofs.EncodedLaws.{encoded-put}
+use Rattle.esc_answers.proofs.encode.encode_next.Statement.{statement}
+use Rattle.esc_answers.proofs.encode.encode_next.Tie as tie
 
 slice-aggregate-put-next : tie.Need-slice-aggregate-put-next
 slice-aggregate-put-next c = search needs
@@ -18,7 +18,7 @@ put-next-requires c κs = record { fits = omega (arith, body-at-most (answer.Req
 
 returns : tie.Need-returns
 unfolding bodyBytes answerBytes
-returns c = text-put _ _ _ _ refl (c .before .put-next .ensures)
+returns c = encoded-put _ _ _ _ refl (c .before .put-next .ensures)
 
-pub next-text-spec : {M : Type 1} → statement M
-next-text-spec = tie.close (tie.spec slice-aggregate-put-next put-next-requires returns)
+pub encode-next-spec : {M : Type 1} → statement M
+encode-next-spec = tie.close (tie.spec slice-aggregate-put-next put-next-requires returns)

@@ -3,7 +3,7 @@ ghost use mathlib.Core.Path.{_≡_};
 ghost use mathlib.Core.List.{_∷_};
 ghost use lib.ListN.{length};
 ghost use Rattle.esc_answers.specs.Answer.{answerBytes, deliveredBytes};
-ghost use Rattle.esc_answers.specs.Text.{textOf};
+ghost use Rattle.esc_answers.specs.Encoded.{encodedOf};
 use crate::answer::Answer;
 use crate::answer::Delivered;
 use crate::put_parts::put_delivered;
@@ -17,43 +17,43 @@ use esc_feedback::NextRequest;
 pub const LONGEST_ANSWER: usize = 43;
 
 // An answer's bytes in front, and how many they are.
-pub struct AnswerText {
+pub struct EncodedAnswer {
     pub len: usize,
     pub bytes: [u8; LONGEST_ANSWER],
 }
 
 // The bytes of any answer.
-pub fn answer_text(answer: Answer) -> AnswerText
-    ensures { λ r. ⌜ (r .len ≡ length (answerBytes answer)) × (textOf r ≡ answerBytes answer) ⌝ }
+pub fn encode_answer(answer: Answer) -> EncodedAnswer
+    ensures { λ r. ⌜ (r .len ≡ length (answerBytes answer)) × (encodedOf r ≡ answerBytes answer) ⌝ }
 {
     let mut bytes = [0u8; LONGEST_ANSWER];
     let len = put_body(&mut bytes, 1, answer);
-    AnswerText { len, bytes }
+    EncodedAnswer { len, bytes }
 }
 
 // The bytes of a 01's answer, for a loop that knows the kind.
-pub fn next_text(next: NextRequest) -> AnswerText
-    ensures { λ r. ⌜ (r .len ≡ length (answerBytes (Answer.Request next))) × (textOf r ≡ answerBytes (Answer.Request next)) ⌝ }
+pub fn encode_next(next: NextRequest) -> EncodedAnswer
+    ensures { λ r. ⌜ (r .len ≡ length (answerBytes (Answer.Request next))) × (encodedOf r ≡ answerBytes (Answer.Request next)) ⌝ }
 {
     let mut bytes = [0u8; LONGEST_ANSWER];
     let len = put_next(&mut bytes, 1, next);
-    AnswerText { len, bytes }
+    EncodedAnswer { len, bytes }
 }
 
 // The bytes of a 04's answer.
-pub fn timeout_text(timeout: EscManagerTimeout) -> AnswerText
-    ensures { λ r. ⌜ (r .len ≡ length (answerBytes (Answer.Timeout timeout))) × (textOf r ≡ answerBytes (Answer.Timeout timeout)) ⌝ }
+pub fn encode_timeout(timeout: EscManagerTimeout) -> EncodedAnswer
+    ensures { λ r. ⌜ (r .len ≡ length (answerBytes (Answer.Timeout timeout))) × (encodedOf r ≡ answerBytes (Answer.Timeout timeout)) ⌝ }
 {
     let mut bytes = [0u8; LONGEST_ANSWER];
     let len = put_timeout(&mut bytes, 1, timeout);
-    AnswerText { len, bytes }
+    EncodedAnswer { len, bytes }
 }
 
 // The bytes of a sample that a 03 or a 05 delivers: both show it alike.
-pub fn delivered_text(delivered: Delivered) -> AnswerText
-    ensures { λ r. ⌜ (r .len ≡ length (0x00 ∷ deliveredBytes delivered)) × (textOf r ≡ 0x00 ∷ deliveredBytes delivered) ⌝ }
+pub fn encode_delivered(delivered: Delivered) -> EncodedAnswer
+    ensures { λ r. ⌜ (r .len ≡ length (0x00 ∷ deliveredBytes delivered)) × (encodedOf r ≡ 0x00 ∷ deliveredBytes delivered) ⌝ }
 {
     let mut bytes = [0u8; LONGEST_ANSWER];
     let len = put_delivered(&mut bytes, 1, delivered);
-    AnswerText { len, bytes }
+    EncodedAnswer { len, bytes }
 }

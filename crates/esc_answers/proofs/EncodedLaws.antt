@@ -8,10 +8,10 @@ use lib.Seq.{take-at}
 use Rattle.base.specs.BigEndian.{overwrite}
 use Rattle.base.specs.Put.{Put}
 
-pub text-put : (body before after : List ℕ) (n : ℕ) → take 1 before ≡ 0x00 ∷ [] → Put 1 body before after n
+pub encoded-put : (body before after : List ℕ) (n : ℕ) → take 1 before ≡ 0x00 ∷ [] → Put 1 body before after n
     → (n ≡ length (0x00 ∷ body)) × (take n after ≡ 0x00 ∷ body)
 unfolding overwrite
-text-put body before after n zero put =
+encoded-put body before after n zero put =
     let long : n ≡ suc (length body) = omega (arith, put .place) in (
       long,
       ap (take n) (put .contents ∙ ap (λ (l : List ℕ). l ++ (body ++ drop (1 + length body) before)) zero)

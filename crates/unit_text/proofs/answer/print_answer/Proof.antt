@@ -6,13 +6,13 @@ use lib.ListN.{length, length-take}
 use lib.Seq.{length-take-le}
 use Rattle.esc_answers.specs.Answer.{longestAnswer}
 use borrow.Author.Needs.{needs}
-use Rattle.unit_text.proofs.answer.print_text.Statement.{statement}
-use Rattle.unit_text.proofs.answer.print_text.Tie as tie
+use Rattle.unit_text.proofs.answer.print_answer.Statement.{statement}
+use Rattle.unit_text.proofs.answer.print_answer.Tie as tie
 
 -- the text is within its buffer
-within : (c : tie.Start) → c .args .text .len ≤ length (c .args .text .bytes)
+within : (c : tie.Start) → c .args .answer .len ≤ length (c .args .answer .bytes)
 within c =
-    let long : length (c .args .text .bytes) ≡ longestAnswer = search needs in
+    let long : length (c .args .answer .bytes) ≡ longestAnswer = search needs in
     omega (arith, c .pre .0)
 
 array-share-prefix-bytes : tie.Need-array-share-prefix-bytes
@@ -30,8 +30,8 @@ same-length c = search needs
 returns : tie.Need-returns
 returns c = search needs
 
-pub print-text-spec : {M : Type 1} → statement M
-print-text-spec =
+pub print-answer-spec : {M : Type 1} → statement M
+print-answer-spec =
     tie.close
     (tie.spec
     array-share-prefix-bytes

@@ -4,8 +4,8 @@ use native.Mathlib.Omega.{arith}
 use mathlib.Core.Path.{_∙_}
 use lib.Seq.{length-take-le}
 use Rattle.base.proofs.HandLaws.{copied-fits}
-use Rattle.unit_text.proofs.hand.copy_if.Statement.{statement}
-use Rattle.unit_text.proofs.hand.copy_if.Tie as tie
+use Rattle.unit_text.proofs.piece.copy_if.Statement.{statement}
+use Rattle.unit_text.proofs.piece.copy_if.Tie as tie
 
 copy-requires : tie.Need-copy-requires
 copy-requires c κs = search needs
