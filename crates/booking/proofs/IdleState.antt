@@ -11,7 +11,7 @@ use Rattle.base.specs.Choice.{pick}
 use Rattle.base.specs.Due.{due}
 use Rattle.esc_idle.specs.IdleConfig.{validSettings}
 use Rattle.esc_idle.specs.IdleLane.{clearLane, countLane, newestExpired, expireLane, expireLanes, everyEnough}
-use Rattle.esc_idle.specs.Idle.{newIdle, saying, decided, freshAt, weighed, statusOf, sampled, measured, observeOf}
+use Rattle.esc_idle.specs.Idle.{newIdle, saying, decided, standing, unlessStanding, freshAt, weighed, statusOf, sampled, measured, observeOf}
 use Rattle.esc_lanes.specs.declared.output.Lane.{Lane}
 use Rattle.esc_lanes.specs.declared.output.Lane.the-variants.{Output1, Output2, Output3, Output4}
 use Rattle.esc_lanes.specs.declared.request.EscTelemetryUpdate.{EscTelemetryUpdate}
@@ -28,6 +28,7 @@ use Rattle.esc_idle.specs.declared.idle.EscIdleQualification.{EscIdleQualificat
 use Rattle.esc_idle.specs.declared.idle.EscIdleJudged.{EscIdleJudged}
 use Rattle.esc_answers.specs.declared.answer.IdleAnswer.the-variants.{NoCheck, Status}
 use Rattle.base.specs.Maybe.{earliest}
+use Rattle.esc_idle.proofs.IdleLaws.{decided-again, status-stands, observe-stands}
 use Rattle.booking.specs.History.{Check, Seen, Past}
 use Rattle.booking.specs.IdleRule.{
   check,
@@ -191,7 +192,7 @@ asks-is k f none now = rw (← valid-is (k .config)) (go (validSettings (k .conf
     go : (v : Bool)
         → Judged k (freshened k f now)
         (pick v (settled k now (freshened k f now)) (Failed InvalidConfig))
-        (pick v (weighed (freshAt (checkAt k f) now) now) (decided (checkAt k f) (Failed InvalidConfig)))
+        (unlessStanding (checkAt k f) (weighed (freshAt (checkAt k f) now) now) (pick v terminal.None (terminal.Some (Failed InvalidConfig))))
     go true = settle-is k f now
     go false = final k f (freshened k f now) (Failed InvalidConfig) refl
 asks-is k f (some u) now = rw (← valid-is (k .config)) (go (validSettings (k .config)) refl)
@@ -210,7 +211,8 @@ asks-is k f (some u) now = rw (← valid-is (k .config)) (go (validSettings (k .
     go : (v : Bool) → validSettings (k .config) ≡ v
         → Judged k (λ l. streakAt k (some u) now l (f l))
         (pick v (judgedAt k (some u) now f) (Failed InvalidConfig))
-        (pick v (pick (pastGrace k now) (measured (checkAt k f) u now) (saying (checkAt k f) Pending)) (decided (checkAt k f) (Failed InvalidConfig)))
+        (unlessStanding (checkAt k f) (pick (pastGrace k now) (measured (checkAt k f) u now) (saying (checkAt k f) Pending))
+        (pick v terminal.None (terminal.Some (Failed InvalidConfig))))
     go true ok = grace ok (pastGrace k now)
     go false ok = final k f (λ l. streakAt k (some u) now l (f l)) (Failed InvalidConfig) refl
 
@@ -234,9 +236,8 @@ earliest-none (some u) = refl
 
 asks-ended : (q : EscIdleQualification) (v : EscIdleQualificationStatus) (x : Option EscTelemetryUpdate) (now : ℕ)
     → q .verdict .terminal ≡ terminal.Some v → asks q x now ≡ saying q v
-unfolding statusOf observeOf
-asks-ended q v none now e = rw e
-asks-ended q v (some u) now e = rw e
+asks-ended q v none now e = status-stands q now v (ap (standing q) e) ∙ decided-again q v e
+asks-ended q v (some u) now e = observe-stands q u now v (ap (standing q) e) ∙ decided-again q v e
 
 module _ (h : Past) (q : EscIdleQualification) (i : Checked h q) (x : Option EscTelemetryUpdate) (now : ℕ) where
   abbrev k : Check

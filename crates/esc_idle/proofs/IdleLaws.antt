@@ -1,57 +1,26 @@
 -- Each case of each call of the idle check, for callers that keep the definitions shut.
-use mathlib.Core.Path.{_≡_, refl, ap, _∙_}
-use native.Mathlib.Omega.{arith}
-use mathlib.Core.Bool.{Bool, true, false}
+use mathlib.Core.Path.{_≡_, sym, ap, _∙_}
+use mathlib.Core.Bool.{true, false}
 use Prim.Native.Nat.{ℕ, _<_, _≤_}
 use borrow.Author.Tests.{lt-ltb, le-ltb}
-use Rattle.base.specs.Choice.{pick}
 use Rattle.base.specs.Due.{due}
-use Rattle.esc_idle.specs.IdleConfig.{validSettings}
 use Rattle.esc_idle.specs.IdleLane.{everyEnough}
-use Rattle.esc_idle.specs.Idle.{saying, decided, unlessTerminal, standing, timeoutWith, freshAt, weighed, statusOf, sampled, measured, observeOf}
+use Rattle.esc_idle.specs.Idle.{saying, decided, unlessStanding, standing, timeoutWith, freshAt, weighed, statusOf, sampled, measured, observeOf}
 use Rattle.esc_lanes.specs.declared.request.EscTelemetryUpdate.{EscTelemetryUpdate}
-use Rattle.esc_idle.specs.declared.idle_verdict.EscIdleQualificationFailure.the-variants.{InvalidConfig, Overspeed}
+use Rattle.esc_idle.specs.declared.idle_verdict.EscIdleQualificationFailure.the-variants.{Overspeed}
 use Rattle.esc_idle.specs.declared.idle_verdict.EscIdleQualificationStatus.{EscIdleQualificationStatus}
 use Rattle.esc_idle.specs.declared.idle_verdict.EscIdleQualificationStatus.the-variants.{Pending, Qualified, Failed}
 use Rattle.esc_idle.specs.declared.idle_verdict.Terminal.{Terminal}
 use Rattle.esc_idle.specs.declared.idle_verdict.Terminal.the-variants.{None, Some}
 use Rattle.esc_idle.specs.declared.idle.EscIdleQualification.{EscIdleQualification}
-use Rattle.esc_idle.specs.declared.idle.EscIdleJudged.{EscIdleJudged}
 
--- a verdict stands, or the answer is what the call finds
-module _ (q : EscIdleQualification) (found : EscIdleJudged) where
-  kept : (s : EscIdleQualificationStatus) → q .verdict .terminal ≡ Some s → saying q s ≡ decided q s
-  kept s e =
-      ap
-      (λ (t : Terminal).
-      saying (record { config = q .config; «started_at_ms» = q .«started_at_ms»; lanes = q .lanes; verdict = record { terminal = t } }) s)
-      e
-
-  stands : (s : EscIdleQualificationStatus) → standing q (q .verdict .terminal) ≡ Some s → unlessTerminal q found (q .verdict .terminal) ≡ decided q s
-  stands s e = go (q .verdict .terminal) refl e
-    where
-      checked : (valid : Bool) → pick valid None (Some (Failed InvalidConfig)) ≡ Some s
-          → pick valid found (decided q (Failed InvalidConfig)) ≡ decided q s
-      checked true e = let z : _≡_ {A = ℕ} 0 1 = cc in absurd (omega arith)
-      checked false e = ap (decided q) (let f : Failed InvalidConfig ≡ s = cc in f)
-
-      go : (t : Terminal) → q .verdict .terminal ≡ t → standing q t ≡ Some s → unlessTerminal q found (q .verdict .terminal) ≡ decided q s
-      go (Some u) h e =
-          let same : u ≡ s = cc in
-          ap (unlessTerminal q found) (h ∙ ap Some same) ∙ kept s (h ∙ ap Some same)
-      go None h e = ap (unlessTerminal q found) h ∙ checked (validSettings (q .config)) e
-
-  open-still : standing q (q .verdict .terminal) ≡ None → unlessTerminal q found (q .verdict .terminal) ≡ found
-  open-still e = go (q .verdict .terminal) refl e
-    where
-      checked : (valid : Bool) → pick valid None (Some (Failed InvalidConfig)) ≡ None
-          → pick valid found (decided q (Failed InvalidConfig)) ≡ found
-      checked true e = refl
-      checked false e = let z : _≡_ {A = ℕ} 0 1 = cc in absurd (omega arith)
-
-      go : (t : Terminal) → q .verdict .terminal ≡ t → standing q t ≡ None → unlessTerminal q found (q .verdict .terminal) ≡ found
-      go (Some u) h e = let z : _≡_ {A = ℕ} 0 1 = cc in absurd (omega arith)
-      go None h e = ap (unlessTerminal q found) h ∙ checked (validSettings (q .config)) e
+-- a verdict that is there stays as it is
+pub decided-again : (q : EscIdleQualification) (s : EscIdleQualificationStatus) → q .verdict .terminal ≡ Some s → decided q s ≡ saying q s
+decided-again q s e =
+    ap
+    (λ (t : Terminal).
+    saying (record { config = q .config; «started_at_ms» = q .«started_at_ms»; lanes = q .lanes; verdict = record { terminal = t } }) s)
+    (sym e)
 
 module _ (q : EscIdleQualification) (now : ℕ) where
   pub weighed-qualified : everyEnough (q .config .«required_consecutive_samples») (q .lanes) ≡ true → weighed q now ≡ decided q Qualified
@@ -70,11 +39,11 @@ module _ (q : EscIdleQualification) (now : ℕ) where
 
   pub status-stands : (s : EscIdleQualificationStatus) → standing q (q .verdict .terminal) ≡ Some s → statusOf q now ≡ decided q s
   unfolding statusOf
-  status-stands s e = stands q _ s e
+  status-stands s e = ap (unlessStanding q _) e
 
   pub status-open : standing q (q .verdict .terminal) ≡ None → statusOf q now ≡ weighed (freshAt q now) now
   unfolding statusOf
-  status-open e = open-still q _ e
+  status-open e = ap (unlessStanding q _) e
 
 module _ (q : EscIdleQualification) (u : EscTelemetryUpdate) (now : ℕ) where
   pub measured-overspeed : q .config .«max_erpm_div100» < u .observation .sample .«erpm_div100»
@@ -88,13 +57,13 @@ module _ (q : EscIdleQualification) (u : EscTelemetryUpdate) (now : ℕ) where
 
   pub observe-stands : (s : EscIdleQualificationStatus) → standing q (q .verdict .terminal) ≡ Some s → observeOf q u now ≡ decided q s
   unfolding observeOf
-  observe-stands s e = stands q _ s e
+  observe-stands s e = ap (unlessStanding q _) e
 
   module _ (undecided : standing q (q .verdict .terminal) ≡ None) where
     pub observe-ignored : due (q .«started_at_ms») now (q .config .«spinup_grace_ms») ≡ false → observeOf q u now ≡ saying q Pending
     unfolding observeOf
-    observe-ignored d = open-still q _ undecided ∙ rw d
+    observe-ignored d = ap (unlessStanding q _) undecided ∙ rw d
 
     pub observe-measured : due (q .«started_at_ms») now (q .config .«spinup_grace_ms») ≡ true → observeOf q u now ≡ measured q u now
     unfolding observeOf
-    observe-measured d = open-still q _ undecided ∙ rw d
+    observe-measured d = ap (unlessStanding q _) undecided ∙ rw d

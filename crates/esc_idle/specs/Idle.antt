@@ -41,15 +41,15 @@ decided q s =
     (record { config = q .config; «started_at_ms» = q .«started_at_ms»; lanes = q .lanes; verdict = record { terminal = Some s } })
     s
 
--- a terminal verdict stays; invalid settings fail first; else the answer is what the call finds
-abbrev pub unlessTerminal : EscIdleQualification → EscIdleJudged → Terminal → EscIdleJudged
-unlessTerminal q found (Some s) = saying q s
-unlessTerminal q found None = pick (validSettings (q .config)) found (decided q (Failed InvalidConfig))
-
--- the verdict that stands whatever the call finds
+-- the verdict that stands whatever the call finds: a terminal one stays; invalid settings fail first
 abbrev pub standing : EscIdleQualification → Terminal → Terminal
 standing q (Some s) = Some s
 standing q None = pick (validSettings (q .config)) None (Some (Failed InvalidConfig))
+
+-- it is the answer where there is one; else the answer is what the call finds
+abbrev pub unlessStanding : EscIdleQualification → EscIdleJudged → Terminal → EscIdleJudged
+unlessStanding q found (Some s) = decided q s
+unlessStanding q found None = found
 
 -- the four counts
 abbrev pub countsOf : List IdleLane → List ℕ
@@ -74,7 +74,7 @@ weighed q now =
 
 -- `status`: expired lanes are cleared, then the counts are weighed
 unfoldable pub statusOf : EscIdleQualification → ℕ → EscIdleJudged
-statusOf q now = unlessTerminal q (weighed (freshAt q now) now) (q .verdict .terminal)
+statusOf q now = unlessStanding q (weighed (freshAt q now) now) (standing q (q .verdict .terminal))
 
 -- the sample is counted in its lane
 abbrev pub sampled : EscIdleQualification → EscTelemetryUpdate → EscIdleQualification
@@ -93,6 +93,6 @@ measured q u now =
 -- `observe`: at a now without Due(start, now, grace) the sample is ignored and the answer is pending
 unfoldable pub observeOf : EscIdleQualification → EscTelemetryUpdate → ℕ → EscIdleJudged
 observeOf q u now =
-    unlessTerminal q
+    unlessStanding q
     (pick (due (q .«started_at_ms») now (q .config .«spinup_grace_ms»)) (measured q u now) (saying q Pending))
-    (q .verdict .terminal)
+    (standing q (q .verdict .terminal))
