@@ -11,7 +11,7 @@ use crate::once::each_once;
 use esc_lanes::{EscOutput, Lane};
 
 // The motor on each output.
-#[derive(Drop)]
+#[derive(Clone, Copy)]
 pub struct BoardMap {
     output1: Motor,
     output2: Motor,
@@ -19,7 +19,7 @@ pub struct BoardMap {
     output4: Motor,
 }
 
-#[derive(Drop)]
+#[derive(Clone, Copy)]
 pub enum BoardMapRead {
     Map(BoardMap),
     // Not four bytes.

@@ -4,7 +4,7 @@ ghost use Rattle.airframe.specs.Lane.{read_lane, output_read};
 
 use esc_lanes::EscOutput;
 
-#[derive(Drop)]
+#[derive(Clone, Copy)]
 pub enum OutputRead {
     Output(EscOutput),
     // A lane's byte is above 3, or a motor's byte is not 1 to 4.

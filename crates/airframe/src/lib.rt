@@ -1,5 +1,7 @@
 // The airframe's motors, the board map between them and the output lanes, and a motor's speed. No
 // public function has a `requires`.
+#![tactic(auto)]
+
 mod board_map;
 mod lane;
 mod motor;

@@ -3,7 +3,7 @@
 ghost use Rattle.std.specs.Prelude.{◌≡◌, ◌≤◌};
 ghost use Rattle.airframe.specs.Motor.{motor_number, same_motor, motor_of, read_motor, motor_read};
 
-#[derive(Drop)]
+#[derive(Clone, Copy)]
 pub enum MotorNumber {
     One,
     Two,
@@ -11,10 +11,10 @@ pub enum MotorNumber {
     Four,
 }
 
-#[derive(Drop)]
+#[derive(Clone, Copy)]
 pub struct Motor(pub MotorNumber);
 
-#[derive(Drop)]
+#[derive(Clone, Copy)]
 pub enum MotorRead {
     Motor(Motor),
     // A motor's byte is not 1 to 4, or a lane's byte is above 3.

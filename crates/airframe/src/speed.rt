@@ -2,7 +2,7 @@
 ghost use Rattle.std.specs.Prelude.{◌≡◌};
 ghost use Rattle.airframe.specs.Speed.{speed_of, motor_speed};
 
-#[derive(Drop)]
+#[derive(Clone, Copy)]
 pub enum MotorSpeed {
     Rpm(u32),
     // The count of magnets is zero or odd.

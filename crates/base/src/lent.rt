@@ -2,7 +2,7 @@
 ghost use Rattle.std.specs.Prelude.{◌≡◌, min, length, take};
 ghost use Rattle.base.specs.Handed.{handed, handed_reply, handed_output, copied};
 
-#[derive(Drop)]
+#[derive(Clone, Copy)]
 pub enum Handed {
     // So many bytes.
     Written(usize),

@@ -1,5 +1,7 @@
 // Words that every crate uses: a choice, a reply, numbers highest byte first, bytes put into a lent buffer, what may be
 // missing, times and counts, a byte as a larger number. No public function has a `requires`.
+#![tactic(auto)]
+
 mod byte;
 mod lent;
 mod saturating;

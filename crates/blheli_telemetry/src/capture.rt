@@ -4,7 +4,7 @@ ghost use Rattle.blheli_telemetry.specs.Capture.{good, Searched};
 
 use crate::frame::{Decoded, FRAME_LEN, decode};
 
-#[derive(Drop)]
+#[derive(Clone, Copy)]
 pub enum Found {
     // The start of ten bytes that are a good frame.
     At(usize),

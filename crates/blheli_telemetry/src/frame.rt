@@ -11,7 +11,7 @@ pub const FRAME_LEN: usize = 10;
 
 const PAYLOAD_LEN: usize = 9;
 
-#[derive(Drop)]
+#[derive(Clone, Copy)]
 pub struct EscTelemetry {
     pub temperature_c: u8,
     pub voltage_cv: u16,
@@ -21,7 +21,7 @@ pub struct EscTelemetry {
     pub erpm_div100: u16,
 }
 
-#[derive(Drop)]
+#[derive(Clone, Copy)]
 pub enum Decoded {
     Telemetry(EscTelemetry),
     // Not ten bytes.
@@ -30,7 +30,7 @@ pub enum Decoded {
     Crc,
 }
 
-#[derive(Drop)]
+#[derive(Clone, Copy)]
 pub enum Encoded {
     Written,
     // Fewer than ten entries were lent.

@@ -3,6 +3,8 @@
 //
 // The frame is ten bytes with no sync byte and no motor identifier, so the caller associates a
 // frame with the lane that it asked. No public function has a `requires`.
+#![tactic(auto)]
+
 mod big_endian;
 mod capture;
 mod crc;

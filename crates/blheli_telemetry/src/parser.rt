@@ -9,14 +9,14 @@ ghost use Rattle.blheli_telemetry.specs.Parser.{no_counts, new_parser, counted_g
 use crate::frame::{Decoded, EscTelemetry, decode};
 use base::saturating_inc;
 
-#[derive(Drop)]
+#[derive(Clone, Copy)]
 pub struct ParserStats {
     pub valid_frames: u32,
     pub crc_failures: u32,
     pub discarded_bytes: u32,
 }
 
-#[derive(Drop)]
+#[derive(Clone, Copy)]
 pub struct StreamParser {
     len: usize,
     stats: ParserStats,
@@ -24,13 +24,13 @@ pub struct StreamParser {
 }
 
 // What a byte brings out of the parser.
-#[derive(Drop)]
+#[derive(Clone, Copy)]
 pub enum Parsed {
     Sample(EscTelemetry),
     Nothing,
 }
 
-#[derive(Drop)]
+#[derive(Clone, Copy)]
 pub struct Pushed {
     pub parser: StreamParser,
     pub parsed: Parsed,

@@ -10,7 +10,7 @@ ghost use Rattle.c_calls.specs.BoardMap.{together, number_on, motor_of_lane, lan
 use airframe::{BoardMap, BoardMapRead, Motor, MotorRead, OutputRead, output_of_lane};
 
 // A lane's or a motor's number, or that of a refusal.
-#[derive(Drop)]
+#[derive(Clone, Copy)]
 enum Told {
     Number(u8),
     Refused(u8),

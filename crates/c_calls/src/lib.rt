@@ -3,6 +3,8 @@
 //
 // A slice is a pointer and a length. A lent buffer that is too short is refused with 9, and what is lent is
 // left as it was found wherever a call is refused.
+#![tactic(auto)]
+
 mod board_map;
 mod capture;
 mod crc;

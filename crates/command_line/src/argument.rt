@@ -2,7 +2,7 @@
 ghost use Rattle.std.specs.Prelude.{◌≡◌};
 ghost use Rattle.command_line.specs.Argument.{kind_of, option_or_file, same, starts_with_dash};
 
-#[derive(Drop)]
+#[derive(Clone, Copy)]
 pub enum Argument {
     // standard input
     Input,

@@ -1,4 +1,6 @@
 // What the words of the command line ask of the program.
+#![tactic(auto)]
+
 mod argument;
 
 pub use argument::{Argument, classify};

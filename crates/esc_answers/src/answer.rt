@@ -4,39 +4,39 @@ use esc_idle::EscIdleQualificationStatus;
 use esc_lanes::EscTelemetryUpdate;
 
 // What the idle check says, if there is one.
-#[derive(Drop)]
+#[derive(Clone, Copy)]
 pub enum IdleAnswer {
     NoCheck,
     Status(EscIdleQualificationStatus),
 }
 
 // A delivered sample, and what the idle check says to it.
-#[derive(Drop)]
+#[derive(Clone, Copy)]
 pub struct Delivered {
     pub update: EscTelemetryUpdate,
     pub status: IdleAnswer,
 }
 
-#[derive(Drop)]
+#[derive(Clone, Copy)]
 pub enum AckAnswer {
     Rejected,
     Accepted,
     Sample(Delivered),
 }
 
-#[derive(Drop)]
+#[derive(Clone, Copy)]
 pub enum WireAnswer {
     None,
     Sample(Delivered),
 }
 
-#[derive(Drop)]
+#[derive(Clone, Copy)]
 pub enum StoredAnswer {
     None,
     Sample(EscTelemetryUpdate),
 }
 
-#[derive(Drop)]
+#[derive(Clone, Copy)]
 pub struct UnitReport {
     pub faulted: bool,
     pub retrying: bool,
@@ -44,14 +44,14 @@ pub struct UnitReport {
 }
 
 // A lane's figures: samples delivered, the largest temperature and the lowest voltage.
-#[derive(Drop)]
+#[derive(Clone, Copy)]
 pub struct Figure {
     pub samples: u32,
     pub hottest_c: u8,
     pub lowest_cv: u16,
 }
 
-#[derive(Drop)]
+#[derive(Clone, Copy)]
 pub enum Answer {
     // 00, 06, 09, 0a
     Done,

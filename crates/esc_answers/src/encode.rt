@@ -12,7 +12,7 @@ use esc_feedback::{EscManagerTimeout, NextRequest};
 pub const LONGEST_ANSWER: usize = 43;
 
 // An answer's bytes in front, and how many they are.
-#[derive(Drop)]
+#[derive(Clone, Copy)]
 pub struct EncodedAnswer {
     pub len: usize,
     pub bytes: [u8; LONGEST_ANSWER],

@@ -1,4 +1,6 @@
 // Answers: one type for each shape that document 01 gives them, and their bytes.
+#![tactic(auto)]
+
 mod answer;
 mod encode;
 mod put;

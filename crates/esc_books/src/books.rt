@@ -9,7 +9,7 @@ use esc_answers::{Figure, IdleAnswer, StoredAnswer};
 use esc_idle::{EscIdleJudged, EscIdleQualification, EscIdleQualificationConfig};
 use esc_lanes::{EscOutput, EscSamples, EscTelemetryUpdate, StoredObservation};
 
-#[derive(Drop)]
+#[derive(Clone, Copy)]
 pub struct Books {
     samples: EscSamples,
     // Whether there is an idle check: an enum can't hold one, since it holds an array.
@@ -18,7 +18,7 @@ pub struct Books {
     figures: Figures,
 }
 
-#[derive(Drop)]
+#[derive(Clone, Copy)]
 pub struct Booked {
     pub books: Books,
     pub status: IdleAnswer,

@@ -8,7 +8,7 @@ use blheli_telemetry::EscTelemetry;
 use esc_answers::Figure;
 use esc_lanes::{EscOutput, EscTelemetryUpdate};
 
-#[derive(Drop)]
+#[derive(Clone, Copy)]
 pub struct Figures {
     lanes: [Figure; 4],
 }

@@ -1,4 +1,6 @@
 // The books of the unit: stored samples, at most one idle check, and the figures of each lane.
+#![tactic(auto)]
+
 mod books;
 mod figures;
 

@@ -10,7 +10,7 @@ ghost use Rattle.esc_fault.specs.Fault.{no_fault, after_hearing, timed_out_at, q
 use crate::backoff::ESC_RETRY_BACKOFF_STEPS;
 use base::saturating_inc;
 
-#[derive(Drop)]
+#[derive(Clone, Copy)]
 pub struct Fault {
     pub faulted: bool,
     // The fault, or the last byte or acknowledgement seen since.

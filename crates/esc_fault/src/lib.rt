@@ -1,5 +1,7 @@
 // The fault that a timeout leaves: its quiet time, its retries, and when telemetry may resume. No public
 // function has a `requires`.
+#![tactic(auto)]
+
 mod backoff;
 mod fault;
 

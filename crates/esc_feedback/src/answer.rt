@@ -1,20 +1,20 @@
 // What the manager's calls answer.
 use esc_lanes::{EscActuatorRequest, EscTelemetryUpdate};
 
-#[derive(Drop)]
+#[derive(Clone, Copy)]
 pub enum NextRequest {
     None,
     Some(EscActuatorRequest),
 }
 
-#[derive(Drop)]
+#[derive(Clone, Copy)]
 pub enum EscAckOutcome {
     Accepted,
     Sample(EscTelemetryUpdate),
     Rejected,
 }
 
-#[derive(Drop)]
+#[derive(Clone, Copy)]
 pub enum EscManagerTimeout {
     None,
     ActuatorAck(EscActuatorRequest),
@@ -22,14 +22,14 @@ pub enum EscManagerTimeout {
 }
 
 // What a byte of the wire delivers.
-#[derive(Drop)]
+#[derive(Clone, Copy)]
 pub enum WireUpdate {
     None,
     Some(EscTelemetryUpdate),
 }
 
 // How many retries it took until a sample came back.
-#[derive(Drop)]
+#[derive(Clone, Copy)]
 pub enum BackAfterRetries {
     None,
     Some(u32),

@@ -7,7 +7,7 @@ ghost use Rattle.esc_feedback.specs.Config.{legacy_uart};
 // reaches an ESC later.
 pub const ESC_REQUEST_EXPIRY_MS: u32 = 20;
 
-#[derive(Drop)]
+#[derive(Clone, Copy)]
 pub struct EscManagerConfig {
     pub boot_delay_ms: u32,
     pub request_period_ms: u32,

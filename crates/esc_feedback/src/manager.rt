@@ -26,14 +26,14 @@ pub use timeout::Polled;
 pub use wire::Received;
 
 // Set when a sample is delivered after retries, until taken for the log.
-#[derive(Drop)]
+#[derive(Clone, Copy)]
 pub struct Back {
     pub note: BackAfterRetries,
 }
 
 // Most bytes only move the fault's quiet time and join the parser: these two are public, so that a
 // loop over bytes can change them in place.
-#[derive(Drop)]
+#[derive(Clone, Copy)]
 pub struct EscManager {
     config: EscManagerConfig,
     boot_started_ms: u64,
@@ -45,7 +45,7 @@ pub struct EscManager {
     stats: EscManagerStats,
 }
 
-#[derive(Drop)]
+#[derive(Clone, Copy)]
 pub struct TakenBack {
     pub manager: EscManager,
     pub answer: BackAfterRetries,

@@ -8,13 +8,13 @@ use esc_lanes::{EscActuatorRequest, EscTelemetryObservation};
 //
 // The actuator runs at a higher priority and can acknowledge after the manager has read its queue. The
 // frame is held until that very acknowledgement is read.
-#[derive(Drop)]
+#[derive(Clone, Copy)]
 pub enum EarlyObservation {
     None,
     Some(EscTelemetryObservation),
 }
 
-#[derive(Drop)]
+#[derive(Clone, Copy)]
 pub enum PendingRequest {
     None,
     Queued {
@@ -29,7 +29,7 @@ pub enum PendingRequest {
 }
 
 // The enum as a field: with a struct around it a store to the manager is a store to one field.
-#[derive(Drop)]
+#[derive(Clone, Copy)]
 pub struct Outstanding {
     pub pending: PendingRequest,
 }

@@ -4,7 +4,7 @@ ghost use Rattle.esc_feedback.specs.Stats.{more, no_stats, wire_renewed};
 
 use blheli_telemetry::ParserStats;
 
-#[derive(Drop)]
+#[derive(Clone, Copy)]
 pub struct EscManagerStats {
     pub requests_queued: u32,
     pub requests_started: u32,

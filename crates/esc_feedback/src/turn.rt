@@ -6,13 +6,13 @@ use crate::stats::one_more;
 use base::elapsed_at_least;
 use esc_lanes::{EscActuatorRequest, EscOutput};
 
-#[derive(Drop)]
+#[derive(Clone, Copy)]
 pub enum LastRequest {
     None,
     At(u64),
 }
 
-#[derive(Drop)]
+#[derive(Clone, Copy)]
 pub struct Turn {
     pub output: EscOutput,
     pub sequence: u32,

@@ -11,7 +11,7 @@ use crate::idle_verdict::{
 use base::elapsed_at_least;
 use esc_lanes::EscTelemetryUpdate;
 
-#[derive(Drop)]
+#[derive(Clone, Copy)]
 pub struct EscIdleQualification {
     config: EscIdleQualificationConfig,
     started_at_ms: u64,
@@ -20,7 +20,7 @@ pub struct EscIdleQualification {
 }
 
 // The check after a call, and the call's answer.
-#[derive(Drop)]
+#[derive(Clone, Copy)]
 pub struct EscIdleJudged {
     pub idle: EscIdleQualification,
     pub status: EscIdleQualificationStatus,

@@ -2,7 +2,7 @@
 ghost use Rattle.std.specs.Prelude.{◌≡◌};
 ghost use Rattle.esc_idle.specs.IdleConfig.{valid_settings, dshot_settings};
 
-#[derive(Drop)]
+#[derive(Clone, Copy)]
 pub struct EscIdleQualificationConfig {
     pub min_erpm_div100: u16,
     pub max_erpm_div100: u16,

@@ -6,13 +6,13 @@ use base::{elapsed_at_least, saturating_inc};
 use esc_lanes::EscTelemetryObservation;
 
 // When a lane's newest sample was observed; a clear lane has none.
-#[derive(Drop)]
+#[derive(Clone, Copy)]
 pub enum Newest {
     None,
     At(u64),
 }
 
-#[derive(Drop)]
+#[derive(Clone, Copy)]
 pub struct IdleLane {
     pub consecutive_samples: u8,
     pub newest: Newest,

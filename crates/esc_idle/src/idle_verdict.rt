@@ -1,7 +1,7 @@
 // What the idle check answers, and the verdict that it keeps.
 use esc_lanes::EscOutput;
 
-#[derive(Drop)]
+#[derive(Clone, Copy)]
 pub enum EscIdleQualificationFailure {
     InvalidConfig,
     Overspeed {
@@ -17,21 +17,21 @@ pub enum EscIdleQualificationFailure {
     },
 }
 
-#[derive(Drop)]
+#[derive(Clone, Copy)]
 pub enum EscIdleQualificationStatus {
     Pending,
     Qualified,
     Failed(EscIdleQualificationFailure),
 }
 
-#[derive(Drop)]
+#[derive(Clone, Copy)]
 pub enum Terminal {
     None,
     Some(EscIdleQualificationStatus),
 }
 
 // The enum as a field: with a struct around it a store to the check is a store to one field.
-#[derive(Drop)]
+#[derive(Clone, Copy)]
 pub struct IdleVerdict {
     pub terminal: Terminal,
 }

@@ -1,5 +1,7 @@
 // The idle check: whether each motor idles within limits before take-off. A port of the second half of
 // ferrowasp-feedback's esc_manager.rs. No public function has a `requires`.
+#![tactic(auto)]
+
 mod idle;
 mod idle_config;
 mod idle_lane;

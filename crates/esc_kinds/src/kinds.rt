@@ -15,7 +15,7 @@ use esc_feedback::{EscManager, EscManagerConfig};
 use esc_records::Record;
 
 // Manager and books after a record, and its answer.
-#[derive(Drop)]
+#[derive(Clone, Copy)]
 pub struct Stepped {
     pub manager: EscManager,
     pub books: Books,

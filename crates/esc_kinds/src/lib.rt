@@ -1,4 +1,6 @@
 // The kinds of records: what each does to the manager and the books, and what it is answered.
+#![tactic(auto)]
+
 mod kinds;
 
 pub use kinds::{Stepped, step};

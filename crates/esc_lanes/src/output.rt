@@ -3,7 +3,7 @@
 ghost use Rattle.std.specs.Prelude.{◌≡◌};
 ghost use Rattle.esc_lanes.specs.Output.{lane_of, output_at, next_output, same_output};
 
-#[derive(Drop)]
+#[derive(Clone, Copy)]
 pub enum Lane {
     Output1,
     Output2,
@@ -11,7 +11,7 @@ pub enum Lane {
     Output4,
 }
 
-#[derive(Drop)]
+#[derive(Clone, Copy)]
 pub struct EscOutput(pub Lane);
 
 impl EscOutput {

@@ -5,26 +5,26 @@ ghost use Rattle.esc_lanes.specs.Request.{same_request, observation_of, update_o
 use crate::output::EscOutput;
 use blheli_telemetry::EscTelemetry;
 
-#[derive(Drop)]
+#[derive(Clone, Copy)]
 pub struct EscActuatorRequest {
     pub sequence: u32,
     pub output: EscOutput,
 }
 
-#[derive(Drop)]
+#[derive(Clone, Copy)]
 pub struct EscActuatorAck {
     pub request: EscActuatorRequest,
     pub started_at_ms: u64,
 }
 
-#[derive(Drop)]
+#[derive(Clone, Copy)]
 pub struct EscTelemetryObservation {
     pub sample: EscTelemetry,
     pub observed_at_ms: u64,
     pub request_sequence: u32,
 }
 
-#[derive(Drop)]
+#[derive(Clone, Copy)]
 pub struct EscTelemetryUpdate {
     pub output: EscOutput,
     pub observation: EscTelemetryObservation,

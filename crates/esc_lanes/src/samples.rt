@@ -8,18 +8,18 @@ ghost use Rattle.esc_lanes.specs.Samples.{no_samples, stored_in, sample_at};
 use crate::output::EscOutput;
 use crate::request::{EscTelemetryObservation, EscTelemetryUpdate};
 
-#[derive(Drop)]
+#[derive(Clone, Copy)]
 pub enum StoredObservation {
     None,
     Some(EscTelemetryObservation),
 }
 
-#[derive(Drop)]
+#[derive(Clone, Copy)]
 pub struct Slot {
     pub held: StoredObservation,
 }
 
-#[derive(Drop)]
+#[derive(Clone, Copy)]
 pub struct EscSamples {
     slots: [Slot; 4],
 }

@@ -13,7 +13,7 @@ const LAYOUTS: [u32; 15] = [
 ];
 
 // How many bytes each field has, 0 past the last.
-#[derive(Drop)]
+#[derive(Clone, Copy)]
 pub struct Widths {
     first: usize,
     second: usize,
@@ -25,7 +25,7 @@ pub struct Widths {
 }
 
 // The kind, the fields in their order, 0 past the last, and the place where they end.
-#[derive(Drop)]
+#[derive(Clone, Copy)]
 pub struct Fields {
     pub(crate) kind: u64,
     pub(crate) first: u64,

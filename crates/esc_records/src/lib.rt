@@ -1,4 +1,6 @@
 // Records: bytes to typed records, and which are taken.
+#![tactic(auto)]
+
 mod admission;
 mod fields;
 mod reader;

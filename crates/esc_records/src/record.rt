@@ -10,7 +10,7 @@ use esc_feedback::EscManagerConfig;
 use esc_idle::EscIdleQualificationConfig;
 use esc_lanes::{EscActuatorAck, EscActuatorRequest, EscOutput};
 
-#[derive(Drop)]
+#[derive(Clone, Copy)]
 pub enum Record {
     // 00
     Open {
@@ -72,7 +72,7 @@ pub enum Record {
     },
 }
 
-#[derive(Drop)]
+#[derive(Clone, Copy)]
 pub enum RecordRead {
     Record(Record),
     // The number of the refusal.

@@ -1,4 +1,6 @@
 // The ESC telemetry unit: records in, answers out.
+#![tactic(auto)]
+
 mod unit;
 
 pub use unit::{CallReply, Called, StepReply, Unit, UnitStepped};

@@ -13,14 +13,14 @@ use esc_kinds::step;
 use esc_records::{Record, takes};
 
 // Its parts are public, so that a loop over records can change in place what a record touches.
-#[derive(Drop)]
+#[derive(Clone, Copy)]
 pub struct Unit {
     pub opened: bool,
     pub manager: EscManager,
     pub books: Books,
 }
 
-#[derive(Drop)]
+#[derive(Clone, Copy)]
 pub enum StepReply {
     Answer(Answer),
     // The record came before the first 00.
@@ -28,7 +28,7 @@ pub enum StepReply {
 }
 
 // The unit after a record, or as found.
-#[derive(Drop)]
+#[derive(Clone, Copy)]
 pub struct UnitStepped {
     pub unit: Unit,
     pub reply: StepReply,

@@ -15,7 +15,7 @@ const WIDEST: usize = 58;
 // As many bytes as any record has.
 pub const LONGEST_RECORD: usize = 29;
 
-#[derive(Drop)]
+#[derive(Clone, Copy)]
 pub enum LineRead {
     // So many bytes.
     Record(usize),

@@ -10,7 +10,7 @@ use crate::pair::{NO_BYTE, pair};
 
 pub const HELD: usize = 59;
 
-#[derive(Drop)]
+#[derive(Clone, Copy)]
 pub enum NextLine {
     // The chunk ends before the line does; so many characters are held.
     Open(usize),
@@ -19,7 +19,7 @@ pub enum NextLine {
 }
 
 // A line that lies in a chunk from the chunk's front to an LF.
-#[derive(Drop)]
+#[derive(Clone, Copy)]
 enum InPlace {
     // So many bytes.
     Record(usize),
@@ -27,7 +27,7 @@ enum InPlace {
     Other,
 }
 
-#[derive(Drop)]
+#[derive(Clone, Copy)]
 struct LineHeld {
     passed: usize,
     held: usize,

@@ -3,5 +3,7 @@
 //
 // A part of `unit_text`, for it alone: `next_record` and `collected_byte` have a `requires`, which it proves at each
 // call.
+#![tactic(auto)]
+
 pub mod next_record;
 pub mod wire_line;

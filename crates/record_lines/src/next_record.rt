@@ -10,7 +10,7 @@ use esc_records::{Record, RecordRead, admit};
 use hex_lines::line::LineRead;
 use hex_lines::next_line::{NextLine, next_line};
 
-#[derive(Drop)]
+#[derive(Clone, Copy)]
 pub enum NextRecord {
     // The chunk ends before the line does; so many characters are held.
     Open(usize),

@@ -9,7 +9,7 @@ use hex_lines::pair::{NO_BYTE, pair};
 // How many characters it has: two of the kind, two of the byte, sixteen of the time.
 pub const WIRE_LINE: usize = 20;
 
-#[derive(Drop)]
+#[derive(Clone, Copy)]
 pub enum WireLine {
     // The byte, and its time.
     Byte(u8, u64),

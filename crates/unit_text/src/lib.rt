@@ -1,5 +1,7 @@
 // Sessions of the ESC telemetry unit as text: a record in hexadecimal on each line, an answer in
 // hexadecimal on a line for each.
+#![tactic(auto)]
+
 mod answer;
 mod piece;
 mod stream;

@@ -21,7 +21,7 @@ use record_lines::wire_line::{WIRE_LINE, WireLine, collected_byte};
 // As much as any printed line takes.
 pub const LONGEST_LINE: usize = 87;
 
-#[derive(Drop)]
+#[derive(Clone, Copy)]
 pub struct Stream {
     unit: Unit,
     line: [u8; HELD],
@@ -29,7 +29,7 @@ pub struct Stream {
 }
 
 // The stream after what was used of a chunk, and how much was written.
-#[derive(Drop)]
+#[derive(Clone, Copy)]
 pub struct Fed {
     pub stream: Stream,
     pub used: usize,

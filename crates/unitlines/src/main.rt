@@ -1,5 +1,7 @@
 // The program: lines of records from files or standard input, a line with the answer to each on
 // standard output.
+#![tactic(auto)]
+
 mod arguments;
 mod files;
 mod messages;

@@ -9,7 +9,7 @@ use base::Handed;
 use unit_text::Stream;
 
 // The stream after a chunk, and whether all that it printed was written.
-#[derive(Drop)]
+#[derive(Clone, Copy)]
 struct Pumped {
     stream: Stream,
     ok: bool,
@@ -46,7 +46,7 @@ fn finish(stream: Stream, out: &mut [u8]) -> bool {
 }
 
 // How a session ended.
-#[derive(Drop)]
+#[derive(Clone, Copy)]
 pub(crate) enum Ended {
     Answered,
     NotRead,

@@ -1,6 +1,8 @@
 // Runs vectors through the libraries and prints what they compute; the file stdout has what is expected.
 // Beside each vector stands where that comes from: 'document 01' is the specification, 'lib.rs' and
 // 'esc_manager.rs' the Rust originals, run on the same input.
+#![tactic(auto)]
+
 mod board_map;
 mod calls;
 mod captures;

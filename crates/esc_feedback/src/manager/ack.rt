@@ -8,7 +8,7 @@ use crate::outstanding::{EarlyObservation, Outstanding, PendingRequest};
 use crate::stats::one_more;
 use esc_lanes::{EscActuatorAck, EscActuatorRequest, EscTelemetryUpdate};
 
-#[derive(Drop)]
+#[derive(Clone, Copy)]
 pub struct Acked {
     pub manager: EscManager,
     pub answer: EscAckOutcome,

@@ -6,7 +6,7 @@ use crate::manager::EscManager;
 use crate::outstanding::Outstanding;
 use crate::stats::one_more;
 
-#[derive(Drop)]
+#[derive(Clone, Copy)]
 pub struct Recovered {
     pub manager: EscManager,
     pub answer: bool,

@@ -9,7 +9,7 @@ use crate::stats::one_more;
 use base::elapsed_at_least;
 use esc_lanes::EscActuatorRequest;
 
-#[derive(Drop)]
+#[derive(Clone, Copy)]
 pub struct Polled {
     pub manager: EscManager,
     pub answer: EscManagerTimeout,

@@ -8,7 +8,7 @@ use crate::outstanding::{EarlyObservation, Outstanding, PendingRequest};
 use crate::stats::one_more;
 use blheli_telemetry::{EscTelemetry, Parsed};
 
-#[derive(Drop)]
+#[derive(Clone, Copy)]
 pub struct Received {
     pub manager: EscManager,
     pub answer: WireUpdate,

@@ -11,7 +11,7 @@ use esc_answers::write_answer;
 use esc_kinds::step;
 use esc_records::{Record, RecordRead, admit};
 
-#[derive(Drop)]
+#[derive(Clone, Copy)]
 pub enum CallReply {
     // How many bytes the answer has.
     Written(usize),
@@ -19,7 +19,7 @@ pub enum CallReply {
     Refused(u8),
 }
 
-#[derive(Drop)]
+#[derive(Clone, Copy)]
 pub struct Called {
     pub unit: Unit,
     pub reply: CallReply,

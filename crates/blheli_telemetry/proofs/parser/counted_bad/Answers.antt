@@ -1,0 +1,6 @@
+-- Two counts rise, and the rule of saturation is the callee's.
+use borrow.Author.Rules.{rules}
+use Rattle.blheli_telemetry.proofs.parser.counted_bad.Goals as goal
+
+pub returns : goal.returns
+returns c = rw (c.saturating_inc-2.ensures, c.saturating_inc.ensures)

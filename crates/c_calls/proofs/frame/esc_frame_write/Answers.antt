@@ -1,0 +1,18 @@
+-- The number is that of the answer of `encode`.
+use borrow.Author.Rules.{rules}
+use mathlib.Core.Path.{sym, ap, ◌∙◌}
+use Prim.Native.Nat.{ℕ}
+use Rattle.base.specs.Reply.{Reply, number_of}
+use Rattle.blheli_telemetry.specs.Frame.{encoded}
+use Rattle.c_calls.proofs.frame.esc_frame_write.Goals as goal
+
+abbrev number : Reply (Unit {0}) → ℕ
+number r = number_of r
+
+pub returns-in-Written : goal.returns-in-Written
+returns-in-Written c = let e = c.encode-encoded in
+    (ap number (sym (ap encoded c.in-Written.is) ∙ e.ensures.0), e.ensures.1)
+
+pub returns-in-Space : goal.returns-in-Space
+returns-in-Space c = let e = c.encode-encoded in
+    (ap number (sym (ap encoded c.in-Space.is) ∙ e.ensures.0), e.ensures.1)

@@ -1,0 +1,11 @@
+-- A mark, and the fields where there is a sample.
+use borrow.Author.Rules.{rules}
+use mathlib.Core.Path.{refl}
+use Rattle.c_calls.proofs.stream.put.Goals as goal
+
+pub returns-in-Sample : goal.returns-in-Sample
+returns-in-Sample c = let p = c.in-Sample.is in
+    (rw p, rw p c.put_fields.ensures)
+
+pub returns-in-Nothing : goal.returns-in-Nothing
+returns-in-Nothing c = rw c.in-Nothing.is (refl, refl)

@@ -1,0 +1,17 @@
+-- The body of a 04 is put behind the 00.
+use borrow.Author.Rules.{rules}
+use native.Mathlib.Omega.{arith}
+use mathlib.Core.Path.{refl}
+use Rattle.esc_answers.specs.Answer.{body_bytes, answer_bytes}
+use Rattle.esc_answers.specs.declared.answer.Answer.TheVariants as answer
+use Rattle.esc_answers.proofs.AnswerLaws.{body-at-most}
+use Rattle.esc_answers.proofs.EncodedLaws.{encoded-put}
+use Rattle.esc_answers.proofs.encode.encode_timeout.Goals as goal
+
+pub put_timeout-len-requires : goal.put_timeout-len-requires
+unfolding body_bytes
+put_timeout-len-requires c = record { fits = omega (arith, body-at-most (answer.Timeout c.args.timeout)) }
+
+pub returns : goal.returns
+unfolding body_bytes answer_bytes
+returns c = encoded-put _ _ _ _ refl c.put_timeout-len.ensures

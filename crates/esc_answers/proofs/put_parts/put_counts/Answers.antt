@@ -1,0 +1,22 @@
+-- Three numbers, one behind the other.
+use borrow.Author.Rules.{rules}
+use native.Mathlib.Omega.{arith}
+use Rattle.base.specs.BigEndian.{bytes_of}
+use Rattle.base.proofs.PutLaws.{put_then}
+use Rattle.esc_answers.proofs.put_parts.put_counts.Goals as goal
+
+pub put_number-behind_first-requires : goal.put_number-behind_first-requires
+unfolding bytes_of
+put_number-behind_first-requires c = record { fits = omega arith }
+
+pub put_number-behind_second-requires : goal.put_number-behind_second-requires
+unfolding bytes_of
+put_number-behind_second-requires c = record { fits = omega arith }
+
+pub put_number-requires : goal.put_number-requires
+unfolding bytes_of
+put_number-requires c = record { fits = omega arith }
+
+pub returns : goal.returns
+unfolding bytes_of
+returns c = put_then (omega arith) c.put_number-behind_first.ensures (put_then (omega arith) c.put_number-behind_second.ensures c.put_number.ensures)

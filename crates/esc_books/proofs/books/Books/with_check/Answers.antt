@@ -1,0 +1,6 @@
+-- The new check stands where the old one did.
+use borrow.Author.Rules.{rules}
+use Rattle.esc_books.proofs.books.Books.with_check.Goals as goal
+
+pub returns : goal.returns
+returns c = rw c.new-idle.ensures

@@ -1,0 +1,6 @@
+-- Four lanes with no figures.
+use borrow.Author.Rules.{rules}
+use Rattle.esc_books.proofs.figures.Figures.new.Goals as goal
+
+pub returns : goal.returns
+returns c = rw c.no_figure-figure.ensures

@@ -1,0 +1,6 @@
+-- One count rises.
+use Rattle.std.proofs.Common.{rules}
+use Rattle.esc_feedback.proofs.manager.EscManager.mismatched.Goals as goal
+
+pub returns : goal.returns
+returns c = rw c.one_more-mismatched_acks.ensures

@@ -1,0 +1,6 @@
+-- The request is given up, and one count rises.
+use Rattle.std.proofs.Common.{rules}
+use Rattle.esc_feedback.proofs.manager.EscManager.response_timed_out.Goals as goal
+
+pub returns : goal.returns
+returns c = rw (c.one_more-telemetry_response_timeouts.ensures, c.timed_out-m.ensures)

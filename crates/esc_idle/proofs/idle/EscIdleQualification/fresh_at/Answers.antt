@@ -1,0 +1,6 @@
+-- The pass over the lanes, and nothing else.
+use borrow.Author.Rules.{rules}
+use Rattle.esc_idle.proofs.idle.EscIdleQualification.fresh_at.Goals as goal
+
+pub returns : goal.returns
+returns c = rw c.expire_lanes-fresh.ensures

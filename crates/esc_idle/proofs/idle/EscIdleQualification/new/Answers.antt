@@ -1,0 +1,6 @@
+-- Four clear lanes.
+use borrow.Author.Rules.{rules}
+use Rattle.esc_idle.proofs.idle.EscIdleQualification.new.Goals as goal
+
+pub returns : goal.returns
+returns c = rw c.clear-lane.ensures

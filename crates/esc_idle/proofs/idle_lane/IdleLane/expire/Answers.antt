@@ -1,0 +1,13 @@
+-- One law for each answer of is_expired.
+use borrow.Author.Rules.{rules}
+use mathlib.Core.Path.{sym, ◌∙◌}
+use Rattle.esc_idle.proofs.IdleLaneLaws.{expire-cleared, expire-kept}
+use Rattle.esc_idle.proofs.idle_lane.IdleLane.expire.Goals as goal
+
+pub returns-then-is_expired : goal.returns-then-is_expired
+returns-then-is_expired c = let s = c.args in
+    c.clear.ensures ∙ sym (expire-cleared s.max-sample-age-ms s.now-ms s.self (sym c.is_expired.ensures ∙ c.if-is_expired.true))
+
+pub returns : goal.returns
+returns c = let s = c.args in
+    sym (expire-kept s.max-sample-age-ms s.now-ms s.self (sym c.is_expired.ensures ∙ c.if-is_expired.false))

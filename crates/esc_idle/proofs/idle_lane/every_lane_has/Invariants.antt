@@ -1,0 +1,18 @@
+-- The first i lanes have enough exactly where `every` says so.
+use borrow.Author.Rules.{rules}
+use borrow.Author.Tests.{not-true, not-false}
+use native.Mathlib.Omega.{arith}
+use mathlib.Core.Path.{◌≡◌, refl, sym, ◌∙◌}
+use mathlib.Core.Bool.{◌&&◌}
+use mathlib.Core.Logic.{⊎_elim}
+use Prim.Native.Nat.{◌≤◌, ◌-◌}
+use lib.ListN.{length, drop}
+use Rattle.esc_idle.specs.IdleLane.{every_enough}
+use Rattle.esc_idle.proofs.IdleLoops.{every-kept, every-lost, every-end}
+use Rattle.esc_idle.proofs.idle_lane.every_lane_has.Given as goal
+
+abbrev pub invariant-loop-i : goal.invariant-loop-i
+invariant-loop-i l = (every_enough l.required l.lanes ≡ l.every && every_enough l.required (drop l.i l.lanes)) × ((l.i ≤ 4) × (length l.lanes ≡ 4))
+
+abbrev pub decreases-loop-i : goal.decreases-loop-i
+decreases-loop-i l = 4 - l.i

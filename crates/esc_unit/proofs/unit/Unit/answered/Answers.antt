@@ -1,0 +1,21 @@
+-- One law for want of room, one for the answer.
+use mathlib.Core.Path.{sym, ap, ◌∙◌}
+use Rattle.base.specs.Handed.{handed}
+use Rattle.esc_unit.proofs.CallLaws.{meets-space, meets-answer}
+use borrow.Author.Rules.{rules}
+use Rattle.esc_unit.proofs.unit.Unit.answered.Goals as goal
+
+pub returns-in_default : goal.returns-in_default
+returns-in_default c = let w = c.write_answer-written in
+    let s = c.step-stepped in
+    let a = c.args in
+    rw (← s.ensures)
+    (meets-space a.self _ _ s.result w.ensures.1 _ c.refused.ensures (sym (ap handed c.in_default.is) ∙ w.ensures.0))
+
+pub returns : goal.returns
+returns c = let w = c.write_answer-written in
+    let u = c.opened_unit-unit in
+    let s = c.step-stepped in
+    let a = c.args in
+    rw (← s.ensures)
+    (meets-answer a.self _ _ s.result w.ensures.1 _ _ u.ensures (sym (ap handed c.in-Written.is) ∙ w.ensures.0))

@@ -1,0 +1,13 @@
+-- Refused before the first 00, else stepped.
+use mathlib.Core.Path.{sym, ◌∙◌}
+use borrow.Author.Tests.{not-true, not-false}
+use Rattle.esc_unit.proofs.UnitLaws.{enter-refused, enter-accepted}
+use borrow.Author.Rules.{rules}
+use Rattle.esc_unit.proofs.unit.Unit.step.Goals as goal
+
+pub returns-then-not-takes : goal.returns-then-not-takes
+returns-then-not-takes c = sym (enter-refused _ _ (sym c.takes.ensures ∙ not-true _ c.if-not-takes.true-raw))
+
+pub returns : goal.returns
+returns c = rw (c.opened_unit-unit.ensures, c.step-stepped.ensures)
+    (sym (enter-accepted _ _ (sym c.takes.ensures ∙ not-false _ c.if-not-takes.false-raw)))

@@ -1,0 +1,36 @@
+-- A line that was begun is answered as at an LF.
+use borrow.Author.Rules.{rules}
+use native.Mathlib.Omega.{arith}
+use mathlib.Core.Path.{◌≡◌, refl, ap, ◌∙◌}
+use mathlib.Core.List.{List}
+use Prim.Native.Nat.{ℕ}
+use lib.ListN.{length, length-take}
+use Rattle.base.specs.Handed.{handed_reply, handed_output}
+use Rattle.hex_lines.specs.Line.{most_held}
+use Rattle.unit_text.proofs.FedLaws.{fed-fits}
+use Rattle.unit_text.proofs.FinishLaws.{finish-none, finish-some}
+use Rattle.unit_text.proofs.stream.Stream.finish.Goals as goal
+
+line-length : (c : Start) → length c.args.self.line ≡ most_held
+line-length c = search rules
+
+pub returns-then-self-eq0 : goal.returns-then-self-eq0
+returns-then-self-eq0 c = let a = c.args in
+    finish-none _ a.out.now (simp length-take (omega arith))
+
+pub hand-requires : goal.hand-requires
+hand-requires c = let f = c.feed-fed in
+    omega (arith, fed-fits _ _ _ _ f.ensures.0, f.auto.1.1.0)
+
+pub returns : goal.returns
+returns c = let f = c.feed-fed in
+    let h = c.hand in
+    let a = c.args in
+    let text = finish-some _ _ f.new.1.1.0 _
+    (λ e. omega (
+      arith,
+      length-take a.self.held a.self.line,
+      (line-length (PLACE c Start)),
+      c.if-self-eq0.false,
+    )) refl f.ensures.0 f.ensures.1 in
+    (h.ensures.0 ∙ ap (λ (l : List ℕ). handed_reply l (length a.out.now)) text, h.ensures.1 ∙ ap (λ (l : List ℕ). handed_output l a.out.now) text)

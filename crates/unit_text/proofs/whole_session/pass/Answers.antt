@@ -1,0 +1,144 @@
+-- What was passed over is the session so far; it is counted, and copied where it is to be.
+use borrow.Author.Rules.{rules}
+use native.Mathlib.Omega.{arith}
+use mathlib.Core.Path.{sym, ap, ◌∙◌}
+use Prim.Native.Nat.{◌-◌}
+use lib.ListN.{length}
+use Rattle.unit_text.specs.Streams.{streamed}
+use Rattle.base.specs.Handed.{handed}
+use Rattle.unit_text.proofs.StreamLaws.{end-length}
+use Rattle.unit_text.proofs.Feeding.{part_left}
+use Rattle.unit_text.proofs.Passing.{Passing, passing-none, passing-within, passing-some, piece-fits}
+use Rattle.unit_text.proofs.Passing.{passing-short, passing-more, end-count, end-written, passing-end-short, passing-end}
+use Rattle.unit_text.proofs.whole_session.pass.Goals as goal
+
+pub loop-used-init : goal.loop-used-init
+loop-used-init c = passing-none _ _ _ _ _ (search rules) c.new-stream.ensures
+
+pub returns-then-out-written : goal.returns-then-out-written
+returns-then-out-written c = let l = c.loop-used in
+    let f = c.feed-fed in
+    let fed = rw (part_left _ l.used, l.invariant.room) at f.ensures.0 in
+    let text = rw (part_left _ l.used) at f.ensures.1 in
+    passing-short l.invariant c.requires _ f.new.1.1.0 fed text
+    (omega (arith, l.invariant.long))
+
+pub copy_if-requires : goal.copy_if-requires
+copy_if-requires c = let l = c.loop-used in
+    let f = c.feed-fed in
+    let fed = rw (part_left _ l.used, l.invariant.room) at f.ensures.0 in
+    let text = rw (part_left _ l.used) at f.ensures.1 in (
+      omega (
+        arith,
+        piece-fits l.invariant c.requires _
+            f.new.1.1.0 fed text,
+        f.auto.1.1.0,
+        l.invariant.room,
+      ),
+      omega (arith, l.invariant.long, l.invariant.fits, c.if-out-written.false),
+    )
+
+pub overflow_add-used : goal.overflow_add-used
+overflow_add-used c = let l = c.loop-used in
+    let f = c.feed-fed in
+    let fed = rw (part_left _ l.used, l.invariant.room) at f.ensures.0 in
+    let text = rw (part_left _ l.used) at f.ensures.1 in
+    omega (
+      arith,
+      passing-within l.invariant
+          c.requires _ f.new.1.1.0 fed text,
+      c.well-formed,
+    )
+
+pub overflow_add-written : goal.overflow_add-written
+overflow_add-written c = let l = c.loop-used in
+    let f = c.feed-fed in
+    let fed = rw (part_left _ l.used, l.invariant.room) at f.ensures.0 in
+    let text = rw (part_left _ l.used) at f.ensures.1 in
+    omega (
+      arith,
+      l.invariant.long,
+      l.invariant.fits,
+      c.if-out-written.false,
+      c.well-formed,
+    )
+
+pub loop-used-smaller : goal.loop-used-smaller
+loop-used-smaller c = let l = c.loop-used in
+    let f = c.feed-fed in
+    let fed = rw (part_left _ l.used, l.invariant.room) at f.ensures.0 in
+    let text = rw (part_left _ l.used) at f.ensures.1 in
+    omega (
+      arith,
+      passing-within l.invariant
+          c.requires _ f.new.1.1.0 fed text,
+      passing-some l.invariant
+          c.requires _ f.new.1.1.0 fed text
+          (omega (arith, c.loop-used-test.true)),
+    )
+
+pub loop-used-preserved : goal.loop-used-preserved
+loop-used-preserved c = let l = c.loop-used in
+    let f = c.feed-fed in
+    let fed = rw (part_left _ l.used, l.invariant.room) at f.ensures.0 in
+    let text = rw (part_left _ l.used) at f.ensures.1 in
+    let k = c.copy_if in
+    passing-more l.invariant
+    c.requires _ f.new.1.1.0 fed text _ f.auto.1.1.0 k.auto.1.1.1.0
+    (omega (arith, l.invariant.long, c.if-out-written.false)) k.ensures
+
+pub returns-in_default : goal.returns-in_default
+returns-in_default c = let l = c.loop-used in
+    let f = c.finish-end in
+    let told = sym (ap handed c.in_default.is) ∙ f.ensures.0 in
+    absurd (end-written l.invariant c.requires
+    (omega (arith, c.loop-used-test.false)) told)
+
+pub returns-then-out-written-2 : goal.returns-then-out-written-2
+returns-then-out-written-2 c = let l = c.loop-used in
+    let f = c.finish-end in
+    let told = sym (ap handed c.in-Written.is) ∙ f.ensures.0 in
+    passing-end-short l.invariant c.requires
+    (omega (arith, c.loop-used-test.false)) _
+    (end-count l.invariant c.requires
+    (omega (arith, c.loop-used-test.false)) _ told)
+    (omega (arith, l.invariant.long, c.if-out-written-2.true))
+
+pub copy_if-requires-2 : goal.copy_if-requires-2
+copy_if-requires-2 c = let l = c.loop-used in
+    let f = c.finish-end in
+    let told = sym (ap handed c.in-Written.is) ∙ f.ensures.0 in (
+      omega (
+        arith,
+        end-count l.invariant
+            c.requires
+            (omega (arith, c.loop-used-test.false)) _ told,
+        end-length (streamed l.stream),
+        f.auto.1.0,
+        l.invariant.room,
+      ),
+      omega (arith, l.invariant.long, l.invariant.fits, c.if-out-written-2.false),
+    )
+
+pub overflow_add-result : goal.overflow_add-result
+overflow_add-result c = let l = c.loop-used in
+    omega (
+      arith,
+      l.invariant.long,
+      l.invariant.fits,
+      c.if-out-written-2.false,
+      c.well-formed,
+    )
+
+pub returns : goal.returns
+returns c = let l = c.loop-used in
+    let f = c.finish-end in
+    let told = sym (ap handed c.in-Written.is) ∙ f.ensures.0 in
+    let k = c.copy_if-2 in
+    passing-end l.invariant
+    c.requires
+    (omega (arith, c.loop-used-test.false)) _ _ _
+    (end-count l.invariant
+    c.requires
+    (omega (arith, c.loop-used-test.false)) _ told)
+    (omega (arith, l.invariant.long, c.if-out-written-2.false)) f.ensures.1 k.ensures

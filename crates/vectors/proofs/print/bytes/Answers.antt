@@ -1,0 +1,21 @@
+-- The index stays within the slice.
+use Prim.Native.Nat.{◌≤◌, ◌-◌}
+use native.Mathlib.Omega.{arith}
+use borrow.Author.Rules.{rules}
+use lib.ListN.{length}
+use Rattle.vectors.proofs.print.bytes.Goals as goal
+
+pub loop-i-init : goal.loop-i-init
+loop-i-init c = omega arith
+
+pub bounds-b-i : goal.bounds-b-i
+bounds-b-i c = omega arith
+
+pub overflow_add-i : goal.overflow_add-i
+overflow_add-i c = omega arith
+
+pub loop-i-smaller : goal.loop-i-smaller
+loop-i-smaller c = omega arith
+
+pub loop-i-preserved : goal.loop-i-preserved
+loop-i-preserved c = omega arith
