@@ -17,5 +17,5 @@ returns-in-3 c = rw c.in-3.is
 
 pub returns-in_default : goal.returns-in_default
 unfolding motor_of
-returns-in_default c = let n = c.in_default-own.rest in
+returns-in_default c = let n = c.in_default.in_default-own.rest in
     rw (ne_eqb _ 1 n.0.0.1, ne_eqb _ 2 n.0.1, ne_eqb _ 3 n.1)

@@ -9,11 +9,8 @@ use Rattle.blheli_telemetry.proofs.FrameLaws.{short-reply, short-kept, room-repl
 use Rattle.blheli_telemetry.proofs.frame.encode.Goals as goal
 
 pub returns-then-out-lt-FRAME_LEN : goal.returns-then-out-lt-FRAME_LEN
-returns-then-out-lt-FRAME_LEN c = (
-  sym (short-reply c.args.out.now c.if-out-lt-FRAME_LEN.true),
-  sym (short-kept c.args.telemetry
-      c.args.out.now c.if-out-lt-FRAME_LEN.true),
-)
+returns-then-out-lt-FRAME_LEN c = record { result_value = sym (short-reply c.args.out.now c.if-out-lt-FRAME_LEN.true); out_after = sym (short-kept c.args.telemetry
+      c.args.out.now c.if-out-lt-FRAME_LEN.true) }
 
 pub slice_bounds-crc8-end-2 : goal.slice_bounds-crc8-end-2
 slice_bounds-crc8-end-2 c = simp length-take (omega (arith, c.put_payload.auto.0))

@@ -35,4 +35,4 @@ shape_of-out c = c.put_be16-4.auto.0 ∙ third (PLACE c After-put_be16-3)
 pub returns : goal.returns
 returns c = c.put_be16-4.ensures
     ∙ rw (c.put_be16-3.ensures, c.put_be16-2.ensures, c.put_be16.ensures)
-    (payload-built c.args.telemetry c.args.out.now c.requires (omega (arith, c.well-formed)))
+    (payload-built c.args.telemetry c.args.out.now c.requires (omega (arith, c.well_formed)))

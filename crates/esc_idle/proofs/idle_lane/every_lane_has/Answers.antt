@@ -12,7 +12,7 @@ use Rattle.esc_idle.proofs.IdleLoops.{every-kept, every-lost, every-end}
 use Rattle.esc_idle.proofs.idle_lane.every_lane_has.Goals as goal
 
 pub loop-i-init : goal.loop-i-init
-loop-i-init c = (refl, (search rules, c.well-formed.0.1.0.1))
+loop-i-init c = (refl, (search rules, c.well_formed.0.1.0.1))
 
 pub loop-i-preserved : goal.loop-i-preserved
 loop-i-preserved c = let s = c.args in
@@ -27,4 +27,4 @@ loop-i-preserved c = let s = c.args in
     )
 
 pub returns : goal.returns
-returns c = every-end c.args.required c.args.t1 c.loop-i.every c.loop-i.i c.loop-i.invariant.0 (omega arith)
+returns c = every-end c.args.required c.args.required c.loop-i.every c.loop-i.i c.loop-i.invariant.0 (omega arith)

@@ -10,7 +10,7 @@ use Rattle.esc_idle.proofs.IdleLoops.{expire-turn, expire-end}
 use Rattle.esc_idle.proofs.idle_lane.expire_lanes.Goals as goal
 
 pub loop-index-init : goal.loop-index-init
-loop-index-init c = (refl, (search rules, c.well-formed.0.1.0.1))
+loop-index-init c = (refl, (search rules, c.well_formed.0.1.0.1))
 
 pub loop-index-preserved : goal.loop-index-preserved
 loop-index-preserved c = let s = c.args in (

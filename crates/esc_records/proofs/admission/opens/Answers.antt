@@ -34,4 +34,4 @@ not-open (kind.StoredSample o) h = refl
 not-open (kind.Figures o) h = refl
 
 pub returns : goal.returns
-returns c = not-open c.args.«record» c.in_default-own.keys2
+returns c = not-open c.args.«record» c.in_default.in_default-own.keys2

@@ -27,5 +27,5 @@ returns-in-14 c = λ s w r. let f = c.args.fields in let e = c.in-14.is in
     rw (kind_number s f w r 0x0e e, numbers_of-fields s f w r 0x0e e, one_byte s 1) refl
 
 pub returns-in_default : goal.returns-in_default
-returns-in_default c = λ s w r. let f = c.args.fields in let other = c.in_default-own.rest in
+returns-in_default c = λ s w r. let f = c.args.fields in let other = c.in_default.in_default-own.rest in
     rw (kind-first s f w r, no-lane f.kind (known s f w r) other.0.0.0.1 other.0.0.1 other.0.1 other.1)

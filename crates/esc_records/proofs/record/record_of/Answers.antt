@@ -135,5 +135,5 @@ returns-in-14 c = λ s w r. let f = c.args.fields in let e = c.in-14.is in
 
 pub returns-in_default : goal.returns-in_default
 unfolding record_of
-returns-in_default c = λ s w r. let f = c.args.fields in let other = c.in_default-own.rest in
+returns-in_default c = λ s w r. let f = c.args.fields in let other = c.in_default.in_default-own.rest in
     rw (kind_number s f w r 0x0c (else-report f.kind (past 0x0c f.kind other.0.0) (known s f w r) other.0.1 other.1))

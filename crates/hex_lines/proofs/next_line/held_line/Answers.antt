@@ -21,7 +21,7 @@ overflow_add-result c = let h = c.hold-h in
       h.ensures.passed,
       first-within
           c.before.args.chunk.now,
-      c.before.well-formed,
+      c.before.well_formed,
     )
 
 pub returns : goal.returns

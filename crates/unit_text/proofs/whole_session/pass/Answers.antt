@@ -47,7 +47,7 @@ overflow_add-used c = let l = c.loop-used in
       arith,
       passing-within l.invariant
           c.requires _ f.new.1.1.0 fed text,
-      c.well-formed,
+      c.well_formed,
     )
 
 pub overflow_add-written : goal.overflow_add-written
@@ -60,7 +60,7 @@ overflow_add-written c = let l = c.loop-used in
       l.invariant.long,
       l.invariant.fits,
       c.if-out-written.false,
-      c.well-formed,
+      c.well_formed,
     )
 
 pub loop-used-smaller : goal.loop-used-smaller
@@ -127,7 +127,7 @@ overflow_add-result c = let l = c.loop-used in
       l.invariant.long,
       l.invariant.fits,
       c.if-out-written-2.false,
-      c.well-formed,
+      c.well_formed,
     )
 
 pub returns : goal.returns

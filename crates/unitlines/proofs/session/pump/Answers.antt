@@ -21,7 +21,7 @@ pub overflow_add-used : goal.overflow_add-used
 overflow_add-used c = let f = c.feed-fed in
     let l = c.loop-used in
     let fed = rw (part_left _ l.used) at f.ensures.0 in
-    omega (arith, l.invariant.0, fed-within _ _ _ _ fed, length-drop l.used c.args.chunk.now, c.well-formed)
+    omega (arith, l.invariant.0, fed-within _ _ _ _ fed, length-drop l.used c.args.chunk.now, c.well_formed)
 
 pub slice_bounds-write_printed-end-in-loop-used : goal.slice_bounds-write_printed-end-in-loop-used
 slice_bounds-write_printed-end-in-loop-used c = let f = c.feed-fed in

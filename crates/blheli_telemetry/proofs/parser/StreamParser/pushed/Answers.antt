@@ -20,7 +20,7 @@ returns-in_default c = let p = c.args.self in
     rw (c.counted_bad-stats.ensures, c.shifted_down-rest.ensures)
     (sym (push-tenth p byte (sym c.collects.ensures ∙ c.if-collects.false)
     ∙ ap (completed f p.stats) (sym c.decode.ensures)
-    ∙ completed-refused f p.stats (decoded c.decode.result) (refused-else c.decode.result c.in_default-own.keys2)))
+    ∙ completed-refused f p.stats (decoded c.decode.result) (refused-else c.decode.result c.in_default.in_default-own.keys2)))
 
 pub returns : goal.returns
 returns c = let p = c.args.self in

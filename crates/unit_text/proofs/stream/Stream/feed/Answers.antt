@@ -139,7 +139,7 @@ print_flag-written-requires c = room (PLACE c Else-out-written-lt-LONGEST_LINE)
 pub overflow_add-used-in-Byte : goal.overflow_add-used-in-Byte
 overflow_add-used-in-Byte c = omega (
   arith,
-  c.well-formed,
+  c.well_formed,
   passes (PLACE c In-Byte),
 )
 
@@ -180,7 +180,7 @@ loop-used-preserved-in-Open c = let begun-line = found t _ c.in-Open.is in
 pub overflow_add-used-in-Refused : goal.overflow_add-used-in-Refused
 overflow_add-used-in-Refused c = omega (
   arith,
-  c.well-formed,
+  c.well_formed,
   goes (PLACE c After-bytes-in-loop-used-1) (refusal c),
 )
 
@@ -199,7 +199,7 @@ loop-used-preserved-in-Refused c = feeding-record (turn b).before.before.loop.in
 pub overflow_add-used-in-Record : goal.overflow_add-used-in-Record
 overflow_add-used-in-Record c = omega (
   arith,
-  c.well-formed,
+  c.well_formed,
   goes (PLACE c After-bytes-in-loop-used-1) (taken c),
 )
 
