@@ -9,6 +9,7 @@ use Rattle.base.proofs.ByCases.{below_or_not}
 use lib.ListN.{length}
 use Rattle.blheli_telemetry.specs.Capture.{window, good}
 use Rattle.blheli_telemetry.proofs.CaptureLaws.{short-window}
+use Rattle.blheli_telemetry.proofs.capture.find_frame.Goals.{After-is_good}
 use Rattle.blheli_telemetry.proofs.capture.find_frame.Goals as goal
 
 -- what was tested is the window at the start
@@ -32,7 +33,7 @@ pub slice_bounds-is_good-count : goal.slice_bounds-is_good-count
 slice_bounds-is_good-count c = omega arith
 
 pub returns-then-is_good : goal.returns-then-is_good
-returns-then-is_good c = sym (tested (PLACE c After-is_good)) ∙ c.if-is_good.true
+returns-then-is_good c = sym (tested ((goal.at.returns-then-is_good c).After-is_good)) ∙ c.if-is_good.true
 
 pub overflow_add-start-in-loop-start : goal.overflow_add-start-in-loop-start
 overflow_add-start-in-loop-start c = omega arith
@@ -42,7 +43,7 @@ loop-start-smaller c = omega arith
 
 pub loop-start-preserved : goal.loop-start-preserved
 loop-start-preserved c = let loop = c.loop-start in
-    (omega arith, below_more _ _ loop.invariant.1 (λ e. true≢false (sym (tested (PLACE c After-is_good) ∙ e) ∙ c.if-is_good.false)))
+    (omega arith, below_more _ _ loop.invariant.1 (λ e. true≢false (sym (tested ((goal.at.loop-start-preserved c).After-is_good) ∙ e) ∙ c.if-is_good.false)))
 
 pub returns : goal.returns
 returns c = λ k e. below_or_not k c.loop-start.start (λ h. c.loop-start.invariant.1 k h e) (λ h. short-window

@@ -3,6 +3,7 @@ use native.Mathlib.Omega.{arith}
 use Prim.Native.Nat.{◌<◌}
 use lib.Bits.{bit_xor, xor_lt}
 use Rattle.blheli_telemetry.specs.Crc.{crc_byte}
+use Rattle.blheli_telemetry.proofs.crc.next.Goals.{Start}
 use Rattle.blheli_telemetry.proofs.crc.next.Goals as goal
 
 byte : (c : Start) → bit_xor c.args.crc c.args.byte < 256
@@ -16,4 +17,4 @@ bounds-table-entry c = omega (arith, byte c)
 
 pub returns : goal.returns
 unfolding crc_byte
-returns c = c.requires.rule _ (byte (PLACE c After-way_told-1))
+returns c = c.requires.rule _ (byte ((goal.at.returns c).After-way_told-1))

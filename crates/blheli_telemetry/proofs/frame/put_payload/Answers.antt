@@ -4,6 +4,7 @@ use native.Mathlib.Omega.{arith}
 use mathlib.Core.Path.{◌≡◌, ◌∙◌}
 use lib.ListN.{length, length-set}
 use Rattle.blheli_telemetry.proofs.FrameLaws.{payload-built}
+use Rattle.blheli_telemetry.proofs.frame.put_payload.Goals.{After-put_be16, After-put_be16-2, After-put_be16-3}
 use Rattle.blheli_telemetry.proofs.frame.put_payload.Goals as goal
 
 -- no store changes the length
@@ -21,16 +22,16 @@ pub put_be16-requires : goal.put_be16-requires
 put_be16-requires c = simp length-set (omega arith)
 
 pub put_be16-requires-2 : goal.put_be16-requires-2
-put_be16-requires-2 c = omega (arith, first (PLACE c After-put_be16))
+put_be16-requires-2 c = omega (arith, first ((goal.at.put_be16-requires-2 c).After-put_be16))
 
 pub put_be16-requires-3 : goal.put_be16-requires-3
-put_be16-requires-3 c = omega (arith, second (PLACE c After-put_be16-2))
+put_be16-requires-3 c = omega (arith, second ((goal.at.put_be16-requires-3 c).After-put_be16-2))
 
 pub put_be16-requires-4 : goal.put_be16-requires-4
-put_be16-requires-4 c = omega (arith, third (PLACE c After-put_be16-3))
+put_be16-requires-4 c = omega (arith, third ((goal.at.put_be16-requires-4 c).After-put_be16-3))
 
 pub shape_of-out : goal.shape_of-out
-shape_of-out c = c.put_be16-4.auto.0 ∙ third (PLACE c After-put_be16-3)
+shape_of-out c = c.put_be16-4.auto.0 ∙ third ((goal.at.shape_of-out c).After-put_be16-3)
 
 pub returns : goal.returns
 returns c = c.put_be16-4.ensures

@@ -11,6 +11,7 @@ use Rattle.esc_records.specs.Whole.{Whole}
 use Rattle.esc_records.specs.Fields.{Found}
 use Rattle.esc_records.proofs.FieldLaws.{first-is, end_is}
 use Rattle.esc_records.proofs.RecordLaws.{read-empty, read-kind, read_length, read-lane, read-flag, read-accepted}
+use Rattle.esc_records.proofs.record.read_record.Goals.{After-read_fields-fields, Else-bytes-fields}
 use Rattle.esc_records.proofs.record.read_record.Goals as goal
 
 abbrev bytes : tie.After-read-fields → List ℕ

@@ -4,6 +4,7 @@ use Rattle.hex_lines.specs.NextLine.{InPlaceFrom}
 use Rattle.hex_lines.specs.declared.next_line.InPlace.TheVariants.{Record}
 use Rattle.hex_lines.proofs.NextLineLaws.{next-in-place}
 use borrow.Author.Rules.{rules}
+use Rattle.hex_lines.proofs.next_line.next_line.Goals.{In-Record}
 use Rattle.hex_lines.proofs.next_line.next_line.Goals as goal
 
 in_place : (c : In-Record) → InPlaceFrom

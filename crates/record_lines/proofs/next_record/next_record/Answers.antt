@@ -7,6 +7,7 @@ use Rattle.hex_lines.specs.NextLine.{NextFrom}
 use Rattle.record_lines.specs.NextRecord.{admitted_by}
 use Rattle.hex_lines.specs.declared.next_line.NextLine.TheVariants.{Ended}
 use borrow.Author.Rules.{rules}
+use Rattle.record_lines.proofs.next_record.next_record.Goals.{In-Ended}
 use Rattle.record_lines.proofs.next_record.next_record.Goals as goal
 
 -- LF ends the line
@@ -20,7 +21,7 @@ ended c = rw c.in-Ended.is at c.next_line-found.ensures
 pub admit_line-admission-requires : goal.admit_line-admission-requires
 admit_line-admission-requires c = omega (
   arith,
-  (ended (PLACE c In-Ended-2)).3,
+  (ended ((goal.at.admit_line-admission-requires c).In-Ended-2)).3,
   c.next_line-found.auto.1.1.1.1.0,
   c.before.requires.1,
 )
@@ -29,7 +30,7 @@ pub returns-in-Open : goal.returns-in-Open
 returns-in-Open c = rw c.in-Open.is at c.next_line-found.ensures
 
 pub returns-in-Refused : goal.returns-in-Refused
-returns-in-Refused c = let e = ended (PLACE c In-Ended-2) in
+returns-in-Refused c = let e = ended ((goal.at.returns-in-Refused c).In-Ended-2) in
     let a = c.admit_line-admission.ensures in
     record {
       ends = e.0;
@@ -39,7 +40,7 @@ returns-in-Refused c = let e = ended (PLACE c In-Ended-2) in
     }
 
 pub returns-in-Record : goal.returns-in-Record
-returns-in-Record c = let e = ended (PLACE c In-Ended-2) in
+returns-in-Record c = let e = ended ((goal.at.returns-in-Record c).In-Ended-2) in
     let a = c.admit_line-admission.ensures in
     record {
       ends = e.0;

@@ -30,6 +30,7 @@ use Rattle.unit_text.proofs.AnswersLaws.{
   answers-collected,
 }
 use Rattle.unit_text.proofs.Feeding.{Feeding, feeding-none, held-line, part_left, fed-stop, fed-end, feeding-open, feeding-line, feeding-record, goes_on}
+use Rattle.unit_text.proofs.stream.Stream.feed.Goals.{After-bytes-in-loop-used-1, After-smaller-held, Else-out-written-lt-LONGEST_LINE, In-Byte, In-Record, In-Refused}
 use Rattle.unit_text.proofs.stream.Stream.feed.Goals as goal
 
 -- no more than the buffer is held, whatever the stream says
@@ -134,17 +135,17 @@ pub collected_byte-byte-requires : goal.collected_byte-byte-requires
 collected_byte-byte-requires c = c.digits-digits.ensures
 
 pub print_flag-written-requires : goal.print_flag-written-requires
-print_flag-written-requires c = room (PLACE c Else-out-written-lt-LONGEST_LINE)
+print_flag-written-requires c = room ((goal.at.print_flag-written-requires c).Else-out-written-lt-LONGEST_LINE)
 
 pub overflow_add-used-in-Byte : goal.overflow_add-used-in-Byte
 overflow_add-used-in-Byte c = omega (
   arith,
   c.well_formed,
-  passes (PLACE c In-Byte),
+  passes ((goal.at.overflow_add-used-in-Byte c).In-Byte),
 )
 
 pub loop-used-smaller-in-Byte : goal.loop-used-smaller-in-Byte
-loop-used-smaller-in-Byte c = omega (arith, passes (PLACE c In-Byte))
+loop-used-smaller-in-Byte c = omega (arith, passes ((goal.at.loop-used-smaller-in-Byte c).In-Byte))
 
 pub loop-used-preserved-in-Byte : goal.loop-used-preserved-in-Byte
 loop-used-preserved-in-Byte c = let l = (byte-turn t).before.before.loop in
@@ -181,15 +182,15 @@ pub overflow_add-used-in-Refused : goal.overflow_add-used-in-Refused
 overflow_add-used-in-Refused c = omega (
   arith,
   c.well_formed,
-  goes (PLACE c After-bytes-in-loop-used-1) (refusal c),
+  goes ((goal.at.overflow_add-used-in-Refused c).After-bytes-in-loop-used-1) (refusal c),
 )
 
 pub print_refusal-written-requires : goal.print_refusal-written-requires
 print_refusal-written-requires c = room
-    (PLACE c Else-out-written-lt-LONGEST_LINE)
+    ((goal.at.print_refusal-written-requires c).Else-out-written-lt-LONGEST_LINE)
 
 pub loop-used-smaller-in-Refused : goal.loop-used-smaller-in-Refused
-loop-used-smaller-in-Refused c = less (PLACE c After-bytes-in-loop-used-1) (refusal (PLACE c In-Refused))
+loop-used-smaller-in-Refused c = less ((goal.at.loop-used-smaller-in-Refused c).After-bytes-in-loop-used-1) (refusal ((goal.at.loop-used-smaller-in-Refused c).In-Refused))
 
 pub loop-used-preserved-in-Refused : goal.loop-used-preserved-in-Refused
 loop-used-preserved-in-Refused c = feeding-record (turn b).before.before.loop.invariant (roomy (turn b)) (refusal t)
@@ -200,28 +201,28 @@ pub overflow_add-used-in-Record : goal.overflow_add-used-in-Record
 overflow_add-used-in-Record c = omega (
   arith,
   c.well_formed,
-  goes (PLACE c After-bytes-in-loop-used-1) (taken c),
+  goes ((goal.at.overflow_add-used-in-Record c).After-bytes-in-loop-used-1) (taken c),
 )
 
 pub print_answer-written-requires : goal.print_answer-written-requires
-print_answer-written-requires c = (answer-fits _ c.encode_next.ensures.0, space (PLACE c In-Record))
+print_answer-written-requires c = (answer-fits _ c.encode_next.ensures.0, space ((goal.at.print_answer-written-requires c).In-Record))
 
 pub loop-used-smaller-in-NextRequest : goal.loop-used-smaller-in-NextRequest
-loop-used-smaller-in-NextRequest c = shorter (PLACE c In-Record)
+loop-used-smaller-in-NextRequest c = shorter ((goal.at.loop-used-smaller-in-NextRequest c).In-Record)
 
 pub loop-used-preserved-in-NextRequest : goal.loop-used-preserved-in-NextRequest
 loop-used-preserved-in-NextRequest c = let l = (turn b).before.before.loop in
     (feeding-record l.inv (roomy (turn b)) (taken t)
-    (answers_next (was (turn b)) (heard (turn b)) _ (takes t _ (PLACE c In-NextRequest-2).«record».given.1))
+    (answers_next (was (turn b)) (heard (turn b)) _ (takes t _ ((goal.at.loop-used-preserved-in-NextRequest c).In-NextRequest-2).«record».given.1))
     (rw (c.encode_next.ensures.1, c.next_request-request.ensures) at
     c.print_answer-written.ensures)
     c.print_answer-written.auto.1.0 (bytes-room b))
 
 pub print_flag-written-requires-in-MarkRequestQueued : goal.print_flag-written-requires-in-MarkRequestQueued
-print_flag-written-requires-in-MarkRequestQueued c = space (PLACE c In-Record)
+print_flag-written-requires-in-MarkRequestQueued c = space ((goal.at.print_flag-written-requires-in-MarkRequestQueued c).In-Record)
 
 pub loop-used-smaller-in-MarkRequestQueued : goal.loop-used-smaller-in-MarkRequestQueued
-loop-used-smaller-in-MarkRequestQueued c = shorter (PLACE c In-Record)
+loop-used-smaller-in-MarkRequestQueued c = shorter ((goal.at.loop-used-smaller-in-MarkRequestQueued c).In-Record)
 
 pub loop-used-preserved-in-MarkRequestQueued : goal.loop-used-preserved-in-MarkRequestQueued
 loop-used-preserved-in-MarkRequestQueued c = let l = (turn b).before.before.loop in
@@ -232,10 +233,10 @@ loop-used-preserved-in-MarkRequestQueued c = let l = (turn b).before.before.loop
     c.print_flag-written-in-MarkRequestQueued.auto.1.0 (bytes-room b))
 
 pub print_flag-written-requires-in-Rejected : goal.print_flag-written-requires-in-Rejected
-print_flag-written-requires-in-Rejected c = space (PLACE c In-Record)
+print_flag-written-requires-in-Rejected c = space ((goal.at.print_flag-written-requires-in-Rejected c).In-Record)
 
 pub loop-used-smaller-in-Rejected : goal.loop-used-smaller-in-Rejected
-loop-used-smaller-in-Rejected c = shorter (PLACE c In-Record)
+loop-used-smaller-in-Rejected c = shorter ((goal.at.loop-used-smaller-in-Rejected c).In-Record)
 
 pub loop-used-preserved-in-Rejected : goal.loop-used-preserved-in-Rejected
 loop-used-preserved-in-Rejected c = let l = (turn b).before.before.loop in
@@ -249,10 +250,10 @@ loop-used-preserved-in-Rejected c = let l = (turn b).before.before.loop in
     c.print_flag-written-in-Rejected.auto.1.0 (bytes-room b))
 
 pub print_flag-written-requires-in-Accepted : goal.print_flag-written-requires-in-Accepted
-print_flag-written-requires-in-Accepted c = space (PLACE c In-Record)
+print_flag-written-requires-in-Accepted c = space ((goal.at.print_flag-written-requires-in-Accepted c).In-Record)
 
 pub loop-used-smaller-in-Accepted : goal.loop-used-smaller-in-Accepted
-loop-used-smaller-in-Accepted c = shorter (PLACE c In-Record)
+loop-used-smaller-in-Accepted c = shorter ((goal.at.loop-used-smaller-in-Accepted c).In-Record)
 
 pub loop-used-preserved-in-Accepted : goal.loop-used-preserved-in-Accepted
 loop-used-preserved-in-Accepted c = let l = (turn b).before.before.loop in
@@ -269,11 +270,11 @@ pub print_answer-written-requires-in-Sample : goal.print_answer-written-requires
 print_answer-written-requires-in-Sample c = (
   delivered-fits _ c.encode_delivered-encoded.ensures.0,
   space
-      (PLACE c In-Record),
+      ((goal.at.print_answer-written-requires-in-Sample c).In-Record),
 )
 
 pub loop-used-smaller-in-Sample : goal.loop-used-smaller-in-Sample
-loop-used-smaller-in-Sample c = shorter (PLACE c In-Record)
+loop-used-smaller-in-Sample c = shorter ((goal.at.loop-used-smaller-in-Sample c).In-Record)
 
 pub loop-used-preserved-in-Sample : goal.loop-used-preserved-in-Sample
 loop-used-preserved-in-Sample c = let l = (turn b).before.before.loop in
@@ -291,10 +292,10 @@ loop-used-preserved-in-Sample c = let l = (turn b).before.before.loop in
     c.print_answer-written-in-Sample.auto.1.0 (bytes-room b))
 
 pub print_answer-written-requires-in-PollTimeout : goal.print_answer-written-requires-in-PollTimeout
-print_answer-written-requires-in-PollTimeout c = (answer-fits _ c.encode_timeout.ensures.0, space (PLACE c In-Record))
+print_answer-written-requires-in-PollTimeout c = (answer-fits _ c.encode_timeout.ensures.0, space ((goal.at.print_answer-written-requires-in-PollTimeout c).In-Record))
 
 pub loop-used-smaller-in-PollTimeout : goal.loop-used-smaller-in-PollTimeout
-loop-used-smaller-in-PollTimeout c = shorter (PLACE c In-Record)
+loop-used-smaller-in-PollTimeout c = shorter ((goal.at.loop-used-smaller-in-PollTimeout c).In-Record)
 
 pub loop-used-preserved-in-PollTimeout : goal.loop-used-preserved-in-PollTimeout
 loop-used-preserved-in-PollTimeout c = let l = (turn b).before.before.loop in
@@ -306,10 +307,10 @@ loop-used-preserved-in-PollTimeout c = let l = (turn b).before.before.loop in
     c.print_answer-written-in-PollTimeout.auto.1.0 (bytes-room b))
 
 pub print_flag-written-requires-in-None : goal.print_flag-written-requires-in-None
-print_flag-written-requires-in-None c = space (PLACE c In-Record)
+print_flag-written-requires-in-None c = space ((goal.at.print_flag-written-requires-in-None c).In-Record)
 
 pub loop-used-smaller-in-None : goal.loop-used-smaller-in-None
-loop-used-smaller-in-None c = shorter (PLACE c In-Record)
+loop-used-smaller-in-None c = shorter ((goal.at.loop-used-smaller-in-None c).In-Record)
 
 pub loop-used-preserved-in-None : goal.loop-used-preserved-in-None
 loop-used-preserved-in-None c = let l = (turn b).before.before.loop in
@@ -326,11 +327,11 @@ pub print_answer-written-requires-in-Some : goal.print_answer-written-requires-i
 print_answer-written-requires-in-Some c = (
   delivered-fits _ c.encode_delivered-encoded-in-Some.ensures.0,
   space
-      (PLACE c In-Record),
+      ((goal.at.print_answer-written-requires-in-Some c).In-Record),
 )
 
 pub loop-used-smaller-in-Some : goal.loop-used-smaller-in-Some
-loop-used-smaller-in-Some c = shorter (PLACE c In-Record)
+loop-used-smaller-in-Some c = shorter ((goal.at.loop-used-smaller-in-Some c).In-Record)
 
 pub loop-used-preserved-in-Some : goal.loop-used-preserved-in-Some
 loop-used-preserved-in-Some c = let l = (turn b).before.before.loop in
@@ -348,10 +349,10 @@ loop-used-preserved-in-Some c = let l = (turn b).before.before.loop in
     c.print_answer-written-in-Some.auto.1.0 (bytes-room b))
 
 pub print_answer-written-requires-in_default-record : goal.print_answer-written-requires-in_default-record
-print_answer-written-requires-in_default-record c = (answer-fits _ c.encode_answer.ensures.0, space (PLACE c In-Record))
+print_answer-written-requires-in_default-record c = (answer-fits _ c.encode_answer.ensures.0, space ((goal.at.print_answer-written-requires-in_default-record c).In-Record))
 
 pub loop-used-smaller : goal.loop-used-smaller
-loop-used-smaller c = shorter (PLACE c In-Record)
+loop-used-smaller c = shorter ((goal.at.loop-used-smaller c).In-Record)
 
 pub loop-used-preserved : goal.loop-used-preserved
 loop-used-preserved c = let l = (turn b).before.before.loop in
@@ -362,8 +363,8 @@ loop-used-preserved c = let l = (turn b).before.before.loop in
 
 pub returns-after-loop-used : goal.returns-after-loop-used
 returns-after-loop-used c = let l = c.loop-used in
-    rw (held (PLACE c After-smaller-held)) (fed-end l.invariant (omega arith))
+    rw (held ((goal.at.returns-after-loop-used c).After-smaller-held)) (fed-end l.invariant (omega arith))
 
 pub returns-then-out-written-lt-LONGEST_LINE : goal.returns-then-out-written-lt-LONGEST_LINE
 returns-then-out-written-lt-LONGEST_LINE c = let l = c.loop-used in
-    rw (held (PLACE c After-smaller-held)) (fed-stop l.invariant (omega arith))
+    rw (held ((goal.at.returns-then-out-written-lt-LONGEST_LINE c).After-smaller-held)) (fed-stop l.invariant (omega arith))

@@ -9,6 +9,7 @@ use Rattle.base.specs.Handed.{handed_reply, handed_output}
 use Rattle.hex_lines.specs.Line.{most_held}
 use Rattle.unit_text.proofs.FedLaws.{fed-fits}
 use Rattle.unit_text.proofs.FinishLaws.{finish-none, finish-some}
+use Rattle.unit_text.proofs.stream.Stream.finish.Goals.{Start}
 use Rattle.unit_text.proofs.stream.Stream.finish.Goals as goal
 
 line-length : (c : Start) → length c.args.self.line ≡ most_held
@@ -30,7 +31,7 @@ returns c = let f = c.feed-fed in
     (λ e. omega (
       arith,
       length-take a.self.held a.self.line,
-      (line-length (PLACE c Start)),
+      (line-length ((goal.at.returns c).Start)),
       c.if-self-eq0.false,
     )) refl f.ensures.0 f.ensures.1 in
     (h.ensures.0 ∙ ap (λ (l : List ℕ). handed_reply l (length a.out.now)) text, h.ensures.1 ∙ ap (λ (l : List ℕ). handed_output l a.out.now) text)
