@@ -1,6 +1,5 @@
 -- The number of two bytes is the definition at width two.
 use mathlib.Core.Path.{◌∙◌, sym}
-use borrow.Author.Rules.{rules}
 use Rattle.base.proofs.BigEndianLaws.{number-two}
 use Rattle.blheli_telemetry.proofs.big_endian.be16_at.Goals as goal
 

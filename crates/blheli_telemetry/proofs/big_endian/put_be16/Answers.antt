@@ -1,5 +1,4 @@
 -- Two stores, the second where the first ends, are one run of two bytes.
-use borrow.Author.Rules.{rules}
 use native.Mathlib.Omega.{arith}
 use mathlib.Core.Path.{sym}
 use Prim.Native.Nat.{◌/◌, ◌%◌}

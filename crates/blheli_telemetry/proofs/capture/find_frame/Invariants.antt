@@ -1,14 +1,9 @@
 -- No window before the start is good; the loop ends where every later one is too short.
-use borrow.Author.Rules.{rules}
-use native.Mathlib.Omega.{arith}
-use mathlib.Core.Path.{◌≡◌, ◌∙◌, sym}
-use mathlib.Core.Bool.{true, true≢false}
-use Prim.Native.Nat.{ℕ, ◌+◌, ◌≤◌, ◌<◌, ◌-◌}
-use borrow.Author.Count.{below_more}
-use Rattle.base.proofs.ByCases.{below_or_not}
+use mathlib.Core.Path.{◌≡◌}
+use mathlib.Core.Bool.{true}
+use Prim.Native.Nat.{ℕ, ◌≤◌, ◌<◌, ◌-◌}
 use lib.ListN.{length}
 use Rattle.blheli_telemetry.specs.Capture.{window, good}
-use Rattle.blheli_telemetry.proofs.CaptureLaws.{short-window}
 use Rattle.blheli_telemetry.proofs.capture.find_frame.Given as goal
 
 abbrev pub invariant-loop-start : goal.invariant-loop-start

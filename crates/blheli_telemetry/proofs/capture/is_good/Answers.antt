@@ -1,13 +1,8 @@
 -- A frame is good where reading accepts it.
-use borrow.Author.Rules.{rules}
 use mathlib.Core.Path.{◌∙◌, sym, ap}
 use Rattle.base.specs.Reply.{is_accepted}
 use Rattle.blheli_telemetry.specs.Frame.{decoded}
-use Rattle.blheli_telemetry.proofs.DecodedLaws.{refused-else}
 use Rattle.blheli_telemetry.proofs.capture.is_good.Goals as goal
-
-pub returns-in_default : goal.returns-in_default
-returns-in_default c = sym (refused-else c.decode.result c.in_default.in_default-own.keys2) ∙ ap is_accepted c.decode.ensures
 
 pub returns : goal.returns
 returns c = ap (λ d. is_accepted (decoded d)) (sym c.in-Telemetry.is) ∙ ap is_accepted c.decode.ensures

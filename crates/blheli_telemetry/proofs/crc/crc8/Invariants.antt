@@ -1,12 +1,8 @@
 -- What is left to read, from the register on, gives the CRC of the whole.
-use mathlib.Core.Path.{◌≡◌, refl, ◌∙◌, sym}
-use Prim.Native.Nat.{◌≤◌, ◌<◌, ◌-◌}
-use native.Mathlib.Omega.{arith}
-use borrow.Author.Rules.{rules}
+use mathlib.Core.Path.{◌≡◌}
+use Prim.Native.Nat.{◌≤◌, ◌-◌}
 use lib.ListN.{length, drop}
-use Rattle.blheli_telemetry.specs.Crc.{crc_bit, crc_bits, crc_from, crc_of}
-use Rattle.blheli_telemetry.proofs.CrcTable.{tabled}
-use Rattle.blheli_telemetry.proofs.CrcLaws.{crc-more, crc-end}
+use Rattle.blheli_telemetry.specs.Crc.{crc_from, crc_of}
 use Rattle.blheli_telemetry.proofs.crc.crc8.Given as goal
 
 abbrev pub invariant-loop-i : goal.invariant-loop-i

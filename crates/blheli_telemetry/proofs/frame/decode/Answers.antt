@@ -1,5 +1,4 @@
 -- One law of reading for each return.
-use borrow.Author.Rules.{rules}
 use native.Mathlib.Omega.{arith}
 use mathlib.Core.Path.{◌∙◌, sym}
 use lib.ListN.{length-take}
@@ -13,8 +12,8 @@ pub slice_bounds-crc8-end : goal.slice_bounds-crc8-end
 slice_bounds-crc8-end c = simp length-take (omega arith)
 
 pub returns-then-crc8-frame : goal.returns-then-crc8-frame
-returns-then-crc8-frame c = sym (read-bad c.before.args.frame.now c.if1.false (λ e. c.if-crc8-frame.true (c.crc8.ensures ∙ e)))
+returns-then-crc8-frame c = sym (read-bad c.args.frame.now c.if-frame-ne-FRAME_LEN.false (λ e. c.if-crc8-frame.true (c.crc8.ensures ∙ e)))
 
 pub returns : goal.returns
 returns c = rw c.telemetry_of.ensures
-    (sym (read-good c.before.args.frame.now c.if1.false (sym c.crc8.ensures ∙ c.if-crc8-frame.false)))
+    (sym (read-good c.args.frame.now c.if-frame-ne-FRAME_LEN.false (sym c.crc8.ensures ∙ c.if-crc8-frame.false)))

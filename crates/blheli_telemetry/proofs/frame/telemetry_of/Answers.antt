@@ -1,5 +1,4 @@
 -- Each field is the number at its place.
-use borrow.Author.Rules.{rules}
 use Rattle.blheli_telemetry.specs.Frame.{telemetry_of}
 use Rattle.base.proofs.BigEndianLaws.{number-one}
 use Rattle.blheli_telemetry.proofs.frame.telemetry_of.Goals as goal

@@ -1,5 +1,4 @@
 -- Two counts rise, and the rule of saturation is the callee's.
-use borrow.Author.Rules.{rules}
 use Rattle.blheli_telemetry.proofs.parser.counted_bad.Goals as goal
 
 pub returns : goal.returns

@@ -1,10 +1,8 @@
 -- The first i places hold what stood one place up, the others are as they were.
 use borrow.Author.Rules.{rules}
 use native.Mathlib.Omega.{arith}
-use mathlib.Core.Path.{◌≡◌, refl}
-use Prim.Native.Nat.{◌≤◌, ◌-◌}
-use lib.ListN.{length, drop, length-set}
-use lib.Seq.{paste}
+use mathlib.Core.Path.{refl}
+use lib.ListN.{length-set}
 use Rattle.blheli_telemetry.proofs.ParserLaws.{shift-turn, shift-end}
 use Rattle.blheli_telemetry.proofs.parser.shifted_down.Goals as goal
 
@@ -31,10 +29,10 @@ loop-i-preserved c = (
   omega arith,
   (
     simp length-set (omega arith),
-    shift-turn c.args.t1 c.loop-i.shifted c.loop-i.i (search rules) (omega arith)
+    shift-turn c.args.bytes c.loop-i.shifted c.loop-i.i (search rules) (omega arith)
         c.loop-i.invariant.1.1,
   ),
 )
 
 pub returns : goal.returns
-returns c = shift-end c.args.t1 c.loop-i.shifted c.loop-i.i (omega arith) c.loop-i.invariant.1.1
+returns c = shift-end c.args.bytes c.loop-i.shifted c.loop-i.i (omega arith) c.loop-i.invariant.1.1

@@ -1,11 +1,8 @@
 -- The first i places hold what stood one place up, the others are as they were.
-use borrow.Author.Rules.{rules}
-use native.Mathlib.Omega.{arith}
-use mathlib.Core.Path.{◌≡◌, refl}
+use mathlib.Core.Path.{◌≡◌}
 use Prim.Native.Nat.{◌≤◌, ◌-◌}
-use lib.ListN.{length, drop, length-set}
+use lib.ListN.{length, drop}
 use lib.Seq.{paste}
-use Rattle.blheli_telemetry.proofs.ParserLaws.{shift-turn, shift-end}
 use Rattle.blheli_telemetry.proofs.parser.shifted_down.Given as goal
 
 abbrev pub invariant-loop-i : goal.invariant-loop-i

@@ -1,5 +1,4 @@
 -- The test that decides is the definition's.
-use borrow.Author.Rules.{rules}
 use borrow.Author.Tests.{lt-ltb, le-ltb}
 use Rattle.blheli_telemetry.proofs.parser.StreamParser.collected.Goals as goal
 

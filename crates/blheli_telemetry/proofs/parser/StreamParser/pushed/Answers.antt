@@ -1,5 +1,4 @@
 -- One law for each way.
-use borrow.Author.Rules.{rules}
 use mathlib.Core.Path.{sym, ap, ◌∙◌}
 use lib.ListN.{set}
 use Rattle.blheli_telemetry.specs.Frame.{decoded}
@@ -20,7 +19,7 @@ returns-in_default c = let p = c.args.self in
     rw (c.counted_bad-stats.ensures, c.shifted_down-rest.ensures)
     (sym (push-tenth p byte (sym c.collects.ensures ∙ c.if-collects.false)
     ∙ ap (completed f p.stats) (sym c.decode.ensures)
-    ∙ completed-refused f p.stats (decoded c.decode.result) (refused-else c.decode.result c.in_default.in_default-own.keys2)))
+    ∙ completed-refused f p.stats (decoded c.decode.result) (refused-else c.decode.result c.in_default.not-Telemetry)))
 
 pub returns : goal.returns
 returns c = let p = c.args.self in
