@@ -18,9 +18,9 @@ pub loop-i-preserved : goal.loop-i-preserved
 loop-i-preserved c = let s = c.args in
     let h = c.has.ensures in (
       ⊎_elim
-          (λ w. every-lost s.required s.t1 c.loop-i.every c.loop-i.i c.loop-i.invariant.0
+          (λ w. every-lost s.required s.required c.loop-i.every c.loop-i.i c.loop-i.invariant.0
           c.if-not-has.every w.1 (omega arith) (sym h ∙ not-true _ w.0.taken))
-          (λ w. every-kept s.required s.t1 c.loop-i.every c.loop-i.i c.loop-i.invariant.0
+          (λ w. every-kept s.required s.required c.loop-i.every c.loop-i.i c.loop-i.invariant.0
           c.if-not-has.every w.1 (omega arith) (sym h ∙ not-false _ w.0.left))
           c.if-not-has.branch,
       (search rules, c.loop-i.invariant.1.1),

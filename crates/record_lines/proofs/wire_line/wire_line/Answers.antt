@@ -15,11 +15,11 @@ loop-read-init c = let byte = c.pair-byte in
 
 pub overflow_mul-at_ms : goal.overflow_mul-at_ms
 overflow_mul-at_ms c = let l = c.loop-read in
-    omega (arith, seven-fit l.read l.at-ms (omega arith) l.invariant.small)
+    omega (arith, seven-fit l.read l.at_ms (omega arith) l.invariant.small)
 
 pub overflow_add-at_ms : goal.overflow_add-at_ms
 overflow_add-at_ms c = let l = c.loop-read in
-    omega (arith, seven-fit l.read l.at-ms (omega arith) l.invariant.small, c.if-next-ge-NO_BYTE.false)
+    omega (arith, seven-fit l.read l.at_ms (omega arith) l.invariant.small, c.if-next-ge-NO_BYTE.false)
 
 pub loop-read-preserved : goal.loop-read-preserved
 loop-read-preserved c = let l = c.loop-read in
