@@ -1,8 +1,5 @@
 -- 03, one law for each case: nothing queued, another request's, and the queued one's.
-use Rattle.std.proofs.Common.{◌≡◌, ℕ, true, false, [], ◌∷◌, refl, ap, ⊎_elim}
-use borrow.Author.Tests.{eqb-false}
-use denote.Enum.Declared.{tag_of}
-use types.Run.{OneOf}
+use Rattle.std.proofs.Common.{◌≡◌, ℕ, true, false, refl, ap}
 use Rattle.base.specs.Choice.{pick}
 use Rattle.esc_lanes.specs.Request.{same_request}
 use Rattle.esc_feedback.specs.Manager.{heard_by}
@@ -13,13 +10,13 @@ use Rattle.esc_feedback.specs.declared.outstanding.EarlyObservation.{EarlyObserv
 use Rattle.esc_feedback.specs.declared.outstanding.PendingRequest.{PendingRequest}
 use Rattle.esc_feedback.specs.declared.outstanding.PendingRequest.TheVariants as pending
 use Rattle.esc_feedback.specs.declared.manager.EscManager.{EscManager}
-use Rattle.esc_feedback.specs.contracts.outstanding.PendingRequest.{the_type}
 
-ack-else-on : (m : EscManager) (a : EscActuatorAck) (p : PendingRequest) → OneOf (0 ∷ 2 ∷ []) (tag_of the_type p) → ack_on m a p ≡ rejected_ack m
+ack-else-on : (m : EscManager) (a : EscActuatorAck) (p : PendingRequest)
+    → ((q : EscActuatorRequest) (t : ℕ) (held : EarlyObservation) → p ≡ pending.Queued q t held → ⊥) → ack_on m a p ≡ rejected_ack m
 unfolding ack_on
 ack-else-on m a pending.None h = refl
 ack-else-on m a (pending.Started q t) h = refl
-ack-else-on m a (pending.Queued q t e) h = ⊎_elim (λ w. absurd (eqb-false 1 0 refl w)) (λ w. absurd (eqb-false 1 2 refl w)) h
+ack-else-on m a (pending.Queued q t held) h = absurd (h q t held refl)
 
 module _ (m : EscManager) (a : EscActuatorAck) where
   -- the manager once it has heard of the acknowledgement
@@ -27,7 +24,8 @@ module _ (m : EscManager) (a : EscActuatorAck) where
   heard = heard_by m a.started_at_ms
 
   -- nothing queued: a variant other than `Queued`
-  pub ack-else : OneOf (0 ∷ 2 ∷ []) (tag_of the_type m.outstanding.pending) → on_ack m a ≡ rejected_ack heard
+  pub ack-else : ((q : EscActuatorRequest) (t : ℕ) (held : EarlyObservation) → m.outstanding.pending ≡ pending.Queued q t held → ⊥)
+      → on_ack m a ≡ rejected_ack heard
   unfolding on_ack
   ack-else h = ack-else-on heard a m.outstanding.pending h
 

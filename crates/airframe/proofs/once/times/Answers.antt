@@ -8,6 +8,7 @@ use lib.ListN.{length, drop}
 use Rattle.airframe.specs.Once.{times}
 use Rattle.airframe.proofs.OnceLaws.{times-hit, times-miss, times-end}
 use Rattle.airframe.proofs.once.times.Goals as goal
+use Rattle.airframe.proofs.once.times.Goals.{then-bytes-i, else-bytes-i}
 
 pub loop-i-init : goal.loop-i-init
 loop-i-init c = (search rules, (search rules, omega arith))
@@ -28,10 +29,10 @@ pub loop-i-preserved : goal.loop-i-preserved
 loop-i-preserved c = let s = c.args in
     let h : c.loop-i.i < length s.bytes.now = omega arith in (
       omega arith,
-      ⊎_elim
-          (λ w. (omega arith, omega (arith, times-hit s.byte s.bytes.now c.loop-i.i h w.0.taken)))
-          (λ w. (omega arith, omega (arith, times-miss s.byte s.bytes.now c.loop-i.i h w.0.left)))
-          c.if-bytes-i.branch,
+      elim c.if-bytes-i.branch [
+        then-bytes-i w ↦ (omega arith, omega (arith, times-hit s.byte s.bytes.now c.loop-i.i h w.if-bytes-i.true))
+        | else-bytes-i w ↦ (omega arith, omega (arith, times-miss s.byte s.bytes.now c.loop-i.i h w.if-bytes-i.false))
+      ],
     )
 
 pub returns : goal.returns

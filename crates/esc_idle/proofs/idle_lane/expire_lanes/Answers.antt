@@ -14,11 +14,11 @@ loop-index-init c = (refl, (search rules, c.well_formed.0.1.0.1))
 
 pub loop-index-preserved : goal.loop-index-preserved
 loop-index-preserved c = let s = c.args in (
-  expire-turn s.max_sample_age_ms s.now_ms s.max_sample_age_ms c.loop-index.fresh c.loop-index.index c.loop-index.invariant.0
+  expire-turn s.max_sample_age_ms s.now_ms s.lanes c.loop-index.fresh c.loop-index.index c.loop-index.invariant.0
       c.expire-kept.result (omega arith) c.expire-kept.ensures,
   (search rules, c.loop-index.invariant.1.1),
 )
 
 pub returns : goal.returns
 returns c = let s = c.args in
-    expire-end s.max_sample_age_ms s.now_ms s.max_sample_age_ms c.loop-index.fresh c.loop-index.index c.loop-index.invariant.0 (omega arith)
+    expire-end s.max_sample_age_ms s.now_ms s.lanes c.loop-index.fresh c.loop-index.index c.loop-index.invariant.0 (omega arith)

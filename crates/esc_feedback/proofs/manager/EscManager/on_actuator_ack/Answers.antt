@@ -5,7 +5,7 @@ use Rattle.esc_feedback.proofs.AckLaws.{ack-else, ack-other, ack-same}
 use Rattle.esc_feedback.proofs.manager.EscManager.on_actuator_ack.Goals as goal
 
 pub returns-in_default : goal.returns-in_default
-returns-in_default c = rw (c.mismatched.ensures, c.heard-heard.ensures) (sym (ack-else _ _ c.in_default.in_default-own.keys2))
+returns-in_default c = rw (c.mismatched.ensures, c.heard-heard.ensures) (sym (ack-else _ _ c.in_default.not-Queued))
 
 pub returns-then-not-same : goal.returns-then-not-same
 returns-then-not-same c = rw (c.mismatched-then-not-same.ensures, c.heard-heard.ensures) (sym (ack-other _ _ _ _
