@@ -1,4 +1,5 @@
 -- The lane is the first or the second field of its kind.
+use Rattle.std.proofs.Common.{arith, ◌≢◌}
 use mathlib.Core.Path.{refl}
 use Rattle.esc_records.specs.Fields.{layouts, field_widths}
 use Rattle.esc_records.proofs.ReaderLaws.{one_byte}
@@ -27,5 +28,9 @@ returns-in-14 c = λ s w r. let f = c.args.fields in let e = c.in-14.is in
     rw (kind_number s f w r 0x0e e, numbers_of-fields s f w r 0x0e e, one_byte s 1) refl
 
 pub returns-in_default : goal.returns-in_default
-returns-in_default c = λ s w r. let f = c.args.fields in let other = c.in_default.in_default-own.rest in
-    rw (kind-first s f w r, no-lane f.kind (known s f w r) other.0.0.0.1 other.0.0.1 other.0.1 other.1)
+returns-in_default c = λ s w r. let f = c.args.fields in
+    let two : f.kind ≢ 0x02 = omega arith in
+    let three : f.kind ≢ 0x03 = omega arith in
+    let thirteen : f.kind ≢ 0x0d = omega arith in
+    let fourteen : f.kind ≢ 0x0e = omega arith in
+    rw (kind-first s f w r, no-lane f.kind (known s f w r) two three thirteen fourteen)

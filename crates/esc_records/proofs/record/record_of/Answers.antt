@@ -1,5 +1,5 @@
 -- Each kind has its fields at their places, and each number fits its type.
-use borrow.Author.Rules.{rules}
+use Rattle.std.proofs.Common.{arith, ◌≡◌, ◌≤◌}
 use Rattle.esc_records.specs.Record.{record_of}
 use Rattle.esc_records.specs.Fields.{layouts, field_widths}
 use Rattle.esc_records.proofs.ReaderLaws.{one_byte}
@@ -135,5 +135,7 @@ returns-in-14 c = λ s w r. let f = c.args.fields in let e = c.in-14.is in
 
 pub returns-in_default : goal.returns-in_default
 unfolding record_of
-returns-in_default c = λ s w r. let f = c.args.fields in let other = c.in_default.in_default-own.rest in
-    rw (kind_number s f w r 0x0c (else-report f.kind (past 0x0c f.kind other.0.0) (known s f w r) other.0.1 other.1))
+returns-in_default c = λ s w r. let f = c.args.fields in
+    let small : f.kind ≤ 14 = known s f w r in
+    let report : f.kind ≡ 0x0c = omega arith in
+    rw (kind_number s f w r 0x0c report)

@@ -11,11 +11,11 @@ returns-then-bytes-ne4 c = rw (ne_eqb _ _ c.if-bytes-ne4.true)
 
 pub returns-then-not-each_once : goal.returns-then-not-each_once
 unfolding read_map
-returns-then-not-each_once c = rw (eq-eqb _ _ c.if-bytes-ne4.false, sym c.each_once.ensures ∙ not-true _ c.if-not-each_once.true-raw)
+returns-then-not-each_once c = rw (eq-eqb _ _ c.if-bytes-ne4.false, sym c.each_once.ensures ∙ c.if-not-each_once.true)
 
 pub map_of-requires : goal.map_of-requires
-map_of-requires c = (c.if-bytes-ne4.false, sym c.each_once.ensures ∙ not-false _ c.if-not-each_once.false-raw)
+map_of-requires c = (c.if-bytes-ne4.false, sym c.each_once.ensures ∙ c.if-not-each_once.false)
 
 pub returns : goal.returns
 unfolding read_map
-returns c = rw (eq-eqb _ _ c.if-bytes-ne4.false, sym c.each_once.ensures ∙ not-false _ c.if-not-each_once.false-raw, c.map_of.ensures)
+returns c = rw (eq-eqb _ _ c.if-bytes-ne4.false, sym c.each_once.ensures ∙ c.if-not-each_once.false, c.map_of.ensures)

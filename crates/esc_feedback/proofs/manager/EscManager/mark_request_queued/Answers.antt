@@ -12,10 +12,10 @@ returns-in_default c = sym (marked-no _ _ _ (ap (is_wanted c.args.request) (sym 
 pub returns-then-not-same : goal.returns-then-not-same
 returns-then-not-same c = sym (marked-no _ _ _ (ap (is_wanted c.args.request) (sym
     c.next_request.ensures ∙ c.in-Some.is) ∙ sym c.same.ensures
-    ∙ not-true _ c.if-not-same.true-raw))
+    ∙ c.if-not-same.true))
 
 pub returns : goal.returns
 returns c = rw c.granted.ensures (sym (marked-yes _ _ _ (ap (is_wanted
     c.args.request) (sym
     c.next_request.ensures ∙ c.in-Some.is) ∙ sym
-    c.same.ensures ∙ not-false _ c.if-not-same.false-raw)))
+    c.same.ensures ∙ c.if-not-same.false)))

@@ -9,8 +9,8 @@ returns-in_default c = rw (c.mismatched.ensures, c.heard-heard.ensures) (sym (ac
 
 pub returns-then-not-same : goal.returns-then-not-same
 returns-then-not-same c = rw (c.mismatched-then-not-same.ensures, c.heard-heard.ensures) (sym (ack-other _ _ _ _
-    _ c.in-Queued.is (sym c.same.ensures ∙ not-true _ c.if-not-same.true-raw)))
+    _ c.in-Queued.is (sym c.same.ensures ∙ c.if-not-same.true)))
 
 pub returns : goal.returns
 returns c = rw (c.started.ensures, c.heard-heard.ensures) (sym (ack-same _ _ _ _ _
-    c.in-Queued.is (sym c.same.ensures ∙ not-false _ c.if-not-same.false-raw)))
+    c.in-Queued.is (sym c.same.ensures ∙ c.if-not-same.false)))

@@ -5,7 +5,7 @@ use Rattle.esc_feedback.proofs.RecoveryLaws.{recovered-yes, recovered-no}
 use Rattle.esc_feedback.proofs.manager.EscManager.try_recover.Goals as goal
 
 pub returns-then-not-may_recover : goal.returns-then-not-may_recover
-returns-then-not-may_recover c = sym (recovered-no _ _ _ (sym c.may_recover.ensures ∙ not-true _ c.if-not-may_recover.true-raw))
+returns-then-not-may_recover c = sym (recovered-no _ _ _ (sym c.may_recover.ensures ∙ c.if-not-may_recover.true))
 
 pub returns : goal.returns
-returns c = rw c.recovered.ensures (sym (recovered-yes _ _ _ (sym c.may_recover.ensures ∙ not-false _ c.if-not-may_recover.false-raw)))
+returns c = rw c.recovered.ensures (sym (recovered-yes _ _ _ (sym c.may_recover.ensures ∙ c.if-not-may_recover.false)))

@@ -13,11 +13,11 @@ pub returns-then-not-elapsed_at_least : goal.returns-then-not-elapsed_at_least
 returns-then-not-elapsed_at_least c = let s = c.args in
     sym (observe-ignored s.self s.update s.now_ms
     (sym c.standing-standing.ensures ∙ c.in_default.is)
-    (sym c.elapsed_at_least.ensures ∙ not-true _ c.if-not-elapsed_at_least.true-raw))
+    (sym c.elapsed_at_least.ensures ∙ c.if-not-elapsed_at_least.true))
 
 pub returns : goal.returns
 returns c = let s = c.args in
     c.measured.ensures
     ∙ sym (observe-measured s.self s.update s.now_ms
     (sym c.standing-standing.ensures ∙ c.in_default.is)
-    (sym c.elapsed_at_least.ensures ∙ not-false _ c.if-not-elapsed_at_least.false-raw))
+    (sym c.elapsed_at_least.ensures ∙ c.if-not-elapsed_at_least.false))
