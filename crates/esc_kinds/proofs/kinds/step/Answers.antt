@@ -5,7 +5,7 @@ use Rattle.esc_kinds.proofs.kinds.step.Goals as goal
 
 pub returns-in-Open : goal.returns-in-Open
 unfolding step_of
-returns-in-Open c = rw ((goal.at.returns-in-Open c).In-Open-2).«record».given.1 c.start_anew.ensures
+returns-in-Open c = rw c.in-Open.is c.start_anew.ensures
 
 pub returns-in-NextRequest : goal.returns-in-NextRequest
 returns-in-NextRequest c = rw c.in-NextRequest.is c.next_request.ensures
