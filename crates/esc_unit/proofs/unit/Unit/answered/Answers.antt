@@ -10,7 +10,8 @@ returns-in_default c = let w = c.write_answer-written in
     let s = c.step-stepped in
     let a = c.args in
     rw (← s.ensures)
-    (meets-space a.self _ _ s.result w.ensures.1 _ c.refused.ensures (sym (ap handed c.in_default.is) ∙ w.ensures.0))
+    (let m = meets-space a.self _ _ s.result w.ensures.out_after _ c.refused.ensures (sym (ap handed c.in_default.is) ∙ w.ensures.result_value) in
+    record { unit_value = m.0; reply_value = m.1.0; out_after = m.1.1 })
 
 pub returns : goal.returns
 returns c = let w = c.write_answer-written in
@@ -18,4 +19,5 @@ returns c = let w = c.write_answer-written in
     let s = c.step-stepped in
     let a = c.args in
     rw (← s.ensures)
-    (meets-answer a.self _ _ s.result w.ensures.1 _ _ u.ensures (sym (ap handed c.in-Written.is) ∙ w.ensures.0))
+    (let m = meets-answer a.self _ _ s.result w.ensures.out_after _ _ u.ensures (sym (ap handed c.in-Written.is) ∙ w.ensures.result_value) in
+    record { unit_value = m.0; reply_value = m.1.0; out_after = m.1.1 })
