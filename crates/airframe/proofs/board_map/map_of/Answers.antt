@@ -1,5 +1,4 @@
 -- The bytes are 1 to 4, and each is turned into its motor.
-use borrow.Author.Rules.{rules}
 use Rattle.airframe.specs.BoardMap.{map_of}
 use Rattle.airframe.proofs.EachOnceLaws.{motor-bytes}
 use Rattle.airframe.proofs.board_map.map_of.Goals as goal

@@ -1,5 +1,4 @@
 -- A lane's number is 3 or less, or it is not.
-use borrow.Author.Rules.{rules}
 use borrow.Author.Tests.{le-leb, lt-leb}
 use Rattle.airframe.specs.Lane.{read_lane}
 use Rattle.airframe.proofs.lane.output_of_lane.Goals as goal

@@ -1,5 +1,4 @@
 -- One number after the other.
-use borrow.Author.Rules.{rules}
 use borrow.Author.Tests.{eq-eqb, ne_eqb}
 use Rattle.airframe.specs.Once.{each_once}
 use Rattle.airframe.proofs.once.each_once.Goals as goal

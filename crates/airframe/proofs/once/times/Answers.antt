@@ -1,11 +1,8 @@
 -- What was found so far and what is left to count make the whole.
-use mathlib.Core.Path.{◌≡◌}
-use mathlib.Core.Logic.{⊎_elim}
-use Prim.Native.Nat.{◌≤◌, ◌<◌, ◌+◌, ◌-◌}
+use Prim.Native.Nat.{◌<◌}
 use native.Mathlib.Omega.{arith}
 use borrow.Author.Rules.{rules}
-use lib.ListN.{length, drop}
-use Rattle.airframe.specs.Once.{times}
+use lib.ListN.{length}
 use Rattle.airframe.proofs.OnceLaws.{times-hit, times-miss, times-end}
 use Rattle.airframe.proofs.once.times.Goals as goal
 use Rattle.airframe.proofs.once.times.Goals.{then-bytes-i, else-bytes-i}
@@ -30,7 +27,7 @@ loop-i-preserved c = let s = c.args in
     let h : c.loop-i.i < length s.bytes.now = omega arith in (
       omega arith,
       elim c.if-bytes-i.branch [
-        then-bytes-i w ↦ (omega arith, omega (arith, times-hit s.byte s.bytes.now c.loop-i.i h w.if-bytes-i.true))
+        | then-bytes-i w ↦ (omega arith, omega (arith, times-hit s.byte s.bytes.now c.loop-i.i h w.if-bytes-i.true))
         | else-bytes-i w ↦ (omega arith, omega (arith, times-miss s.byte s.bytes.now c.loop-i.i h w.if-bytes-i.false))
       ],
     )

@@ -1,12 +1,8 @@
 -- What was found so far and what is left to count make the whole.
 use mathlib.Core.Path.{◌≡◌}
-use mathlib.Core.Logic.{⊎_elim}
-use Prim.Native.Nat.{◌≤◌, ◌<◌, ◌+◌, ◌-◌}
-use native.Mathlib.Omega.{arith}
-use borrow.Author.Rules.{rules}
+use Prim.Native.Nat.{◌≤◌, ◌+◌, ◌-◌}
 use lib.ListN.{length, drop}
 use Rattle.airframe.specs.Once.{times}
-use Rattle.airframe.proofs.OnceLaws.{times-hit, times-miss, times-end}
 use Rattle.airframe.proofs.once.times.Given as goal
 
 abbrev pub invariant-loop-i : goal.invariant-loop-i

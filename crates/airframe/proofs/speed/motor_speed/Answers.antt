@@ -1,5 +1,4 @@
 -- One test after the other, and the quotient as it stands.
-use borrow.Author.Rules.{rules}
 use borrow.Author.Tests.{eq-eqb, ne_eqb}
 use Rattle.airframe.specs.Speed.{speed_of}
 use Rattle.airframe.proofs.speed.motor_speed.Goals as goal

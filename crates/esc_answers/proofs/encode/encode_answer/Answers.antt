@@ -1,5 +1,4 @@
 -- 00 and the body behind it make the answer, and no answer is longer than the buffer.
-use borrow.Author.Rules.{rules}
 use native.Mathlib.Omega.{arith}
 use mathlib.Core.Path.{refl}
 use Rattle.esc_answers.specs.Answer.{answer_bytes}

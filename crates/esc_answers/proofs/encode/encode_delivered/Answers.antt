@@ -1,5 +1,4 @@
 -- The sample is put behind the 00.
-use borrow.Author.Rules.{rules}
 use native.Mathlib.Omega.{arith}
 use mathlib.Core.Path.{refl}
 use Rattle.esc_answers.proofs.AnswerLaws.{delivered-at-most}

@@ -1,5 +1,4 @@
 -- The body of a 04 is put behind the 00.
-use borrow.Author.Rules.{rules}
 use native.Mathlib.Omega.{arith}
 use mathlib.Core.Path.{refl}
 use Rattle.esc_answers.specs.Answer.{body_bytes, answer_bytes}

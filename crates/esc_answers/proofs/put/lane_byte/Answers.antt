@@ -1,5 +1,4 @@
 -- There are four lanes.
-use borrow.Author.Rules.{rules}
 use native.Mathlib.Omega.{arith}
 use Rattle.esc_lanes.proofs.OutputLaws.{lane_below}
 use Rattle.esc_answers.proofs.put.lane_byte.Goals as goal

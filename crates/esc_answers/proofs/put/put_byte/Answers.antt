@@ -1,5 +1,4 @@
 -- One store is a run of one byte.
-use borrow.Author.Rules.{rules}
 use native.Mathlib.Omega.{arith}
 use mathlib.Core.Path.{refl, sym}
 use Rattle.base.proofs.BigEndianLaws.{overwrite-set}

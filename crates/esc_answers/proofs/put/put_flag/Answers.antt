@@ -1,5 +1,4 @@
 -- 01 where it is set, else 00.
-use borrow.Author.Rules.{rules}
 use Rattle.esc_answers.proofs.put.put_flag.Goals as goal
 
 pub returns-then-flag : goal.returns-then-flag

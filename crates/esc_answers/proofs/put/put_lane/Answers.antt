@@ -1,5 +1,4 @@
 -- The byte is the lane's number.
-use borrow.Author.Rules.{rules}
 use Rattle.esc_answers.proofs.put.put_lane.Goals as goal
 
 pub returns : goal.returns

@@ -1,11 +1,8 @@
 -- What is stored, with the bytes that are left to store, makes the whole number.
-use borrow.Author.Rules.{rules}
-use native.Mathlib.Omega.{arith}
-use mathlib.Core.Path.{◌≡◌, refl, sym, ◌∙◌}
+use mathlib.Core.Path.{◌≡◌}
 use Prim.Native.Nat.{◌+◌, ◌≤◌}
 use lib.ListN.{length}
 use Rattle.base.specs.BigEndian.{bytes_of, overwrite}
-use Rattle.base.proofs.PutLaws.{bytes-length, overwrite-none, lowest-stored}
 use Rattle.esc_answers.proofs.put.put_number.Given as goal
 
 abbrev pub invariant-loop-left : goal.invariant-loop-left

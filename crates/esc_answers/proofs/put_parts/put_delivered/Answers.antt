@@ -1,5 +1,4 @@
 -- 02 and the sample, and what the idle check says behind them.
-use borrow.Author.Rules.{rules}
 use native.Mathlib.Omega.{arith}
 use Rattle.esc_answers.specs.Answer.{delivered_bytes, sample_bytes}
 use Rattle.blheli_telemetry.specs.Frame.{payload_of}

@@ -1,5 +1,4 @@
 -- Three numbers, one behind the other.
-use borrow.Author.Rules.{rules}
 use native.Mathlib.Omega.{arith}
 use Rattle.esc_answers.specs.Answer.{figure_bytes}
 use Rattle.base.specs.BigEndian.{bytes_of}

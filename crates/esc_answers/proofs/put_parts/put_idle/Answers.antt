@@ -1,5 +1,4 @@
 -- One run for each case.
-use borrow.Author.Rules.{rules}
 use Rattle.esc_answers.specs.Answer.{idle_bytes}
 use Rattle.esc_answers.proofs.put_parts.put_idle.Goals as goal
 

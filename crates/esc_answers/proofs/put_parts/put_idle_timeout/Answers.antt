@@ -1,5 +1,4 @@
 -- Five bytes, one behind the other.
-use borrow.Author.Rules.{rules}
 use native.Mathlib.Omega.{arith}
 use Rattle.base.proofs.PutLaws.{put_then}
 use Rattle.esc_answers.proofs.put_parts.put_idle_timeout.Goals as goal

@@ -1,5 +1,4 @@
 -- The mark, and the request behind it.
-use borrow.Author.Rules.{rules}
 use native.Mathlib.Omega.{arith}
 use Rattle.esc_answers.specs.Answer.{request_bytes}
 use Rattle.base.specs.BigEndian.{bytes_of}

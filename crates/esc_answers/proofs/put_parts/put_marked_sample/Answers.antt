@@ -1,5 +1,4 @@
 -- The mark, and the sample behind it.
-use borrow.Author.Rules.{rules}
 use native.Mathlib.Omega.{arith}
 use Rattle.esc_answers.specs.Answer.{sample_bytes}
 use Rattle.blheli_telemetry.specs.Frame.{payload_of}

@@ -1,5 +1,4 @@
 -- Five numbers, one behind the other.
-use borrow.Author.Rules.{rules}
 use native.Mathlib.Omega.{arith}
 use Rattle.blheli_telemetry.specs.Frame.{payload_of}
 use Rattle.base.specs.BigEndian.{bytes_of}

@@ -1,5 +1,4 @@
 -- Two flags, and the counts behind them.
-use borrow.Author.Rules.{rules}
 use native.Mathlib.Omega.{arith}
 use Rattle.esc_answers.specs.Answer.{report_bytes}
 use Rattle.base.specs.BigEndian.{bytes_of}

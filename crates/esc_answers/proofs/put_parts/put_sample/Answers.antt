@@ -1,5 +1,4 @@
 -- Lane, sequence, time and payload, one behind the other.
-use borrow.Author.Rules.{rules}
 use native.Mathlib.Omega.{arith}
 use Rattle.esc_answers.specs.Answer.{sample_bytes}
 use Rattle.blheli_telemetry.specs.Frame.{payload_of}

@@ -1,5 +1,4 @@
 -- Two numbers, one behind the other.
-use borrow.Author.Rules.{rules}
 use native.Mathlib.Omega.{arith}
 use Rattle.base.specs.BigEndian.{bytes_of}
 use Rattle.base.proofs.PutLaws.{put_then}

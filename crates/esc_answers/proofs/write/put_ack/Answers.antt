@@ -1,5 +1,4 @@
 -- One run for each case.
-use borrow.Author.Rules.{rules}
 use Rattle.esc_answers.specs.Answer.{ack_bytes}
 use Rattle.esc_answers.proofs.write.put_ack.Goals as goal
 

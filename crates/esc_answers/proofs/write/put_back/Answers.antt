@@ -1,5 +1,4 @@
 -- One run for each case.
-use borrow.Author.Rules.{rules}
 use native.Mathlib.Omega.{arith}
 use Rattle.esc_answers.specs.Answer.{back_bytes}
 use Rattle.base.specs.BigEndian.{bytes_of}

@@ -1,5 +1,4 @@
 -- One run for each kind of answer.
-use borrow.Author.Rules.{rules}
 use Rattle.esc_answers.specs.Answer.{body_bytes}
 use Rattle.base.proofs.PutLaws.{put-none}
 use Rattle.esc_answers.proofs.write.put_body.Goals as goal

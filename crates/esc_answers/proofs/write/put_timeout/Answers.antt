@@ -1,5 +1,4 @@
 -- One run for each case.
-use borrow.Author.Rules.{rules}
 use Rattle.esc_answers.specs.Answer.{timeout_bytes}
 use Rattle.esc_answers.proofs.write.put_timeout.Goals as goal
 

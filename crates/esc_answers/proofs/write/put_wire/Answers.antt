@@ -1,5 +1,4 @@
 -- One run for each case.
-use borrow.Author.Rules.{rules}
 use Rattle.esc_answers.specs.Answer.{wire_bytes}
 use Rattle.esc_answers.proofs.write.put_wire.Goals as goal
 

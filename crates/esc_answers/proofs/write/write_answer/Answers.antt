@@ -1,5 +1,4 @@
 -- What is handed over are the answer's bytes.
-use borrow.Author.Rules.{rules}
 use Rattle.esc_answers.proofs.write.write_answer.Goals as goal
 
 pub returns : goal.returns

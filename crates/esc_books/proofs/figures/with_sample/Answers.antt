@@ -1,5 +1,4 @@
 -- One law for the first sample, and one for each later one.
-use borrow.Author.Rules.{rules}
 use mathlib.Core.Path.{sym}
 use Rattle.esc_books.proofs.FigureLaws.{first-sample, later-sample}
 use Rattle.esc_books.proofs.figures.with_sample.Goals as goal

@@ -1,14 +1,9 @@
 -- The first i lanes have enough exactly where `every` says so.
-use borrow.Author.Rules.{rules}
-use borrow.Author.Tests.{not-true, not-false}
-use native.Mathlib.Omega.{arith}
-use mathlib.Core.Path.{◌≡◌, refl, sym, ◌∙◌}
+use mathlib.Core.Path.{◌≡◌}
 use mathlib.Core.Bool.{◌&&◌}
-use mathlib.Core.Logic.{⊎_elim}
 use Prim.Native.Nat.{◌≤◌, ◌-◌}
 use lib.ListN.{length, drop}
 use Rattle.esc_idle.specs.IdleLane.{every_enough}
-use Rattle.esc_idle.proofs.IdleLoops.{every-kept, every-lost, every-end}
 use Rattle.esc_idle.proofs.idle_lane.every_lane_has.Given as goal
 
 abbrev pub invariant-loop-i : goal.invariant-loop-i

@@ -1,11 +1,7 @@
 -- The lanes before the index have passed, the others are as they were.
 use borrow.Author.Rules.{rules}
 use native.Mathlib.Omega.{arith}
-use mathlib.Core.Path.{◌≡◌, refl}
-use Prim.Native.Nat.{◌≤◌, ◌-◌}
-use lib.ListN.{length}
-use Rattle.esc_idle.specs.IdleLane.{expire_lane}
-use Rattle.esc_idle.proofs.IdlePass.{passed}
+use mathlib.Core.Path.{refl}
 use Rattle.esc_idle.proofs.IdleLoops.{expire-turn, expire-end}
 use Rattle.esc_idle.proofs.idle_lane.expire_lanes.Goals as goal
 

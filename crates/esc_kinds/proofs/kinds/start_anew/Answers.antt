@@ -1,5 +1,4 @@
 -- A new manager and new books.
-use borrow.Author.Rules.{rules}
 use Rattle.esc_kinds.proofs.kinds.start_anew.Goals as goal
 
 pub returns : goal.returns

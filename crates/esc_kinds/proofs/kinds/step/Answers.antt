@@ -1,6 +1,5 @@
 -- Each kind has its own call.
 use Rattle.esc_kinds.specs.Step.{step_of}
-use borrow.Author.Rules.{rules}
 use Rattle.esc_kinds.proofs.kinds.step.Goals as goal
 
 pub returns-in-Open : goal.returns-in-Open

@@ -3,7 +3,6 @@ use mathlib.Core.Path.{sym, ap, ◌∙◌}
 use mathlib.Core.Bool.{true, false}
 use Rattle.esc_records.specs.Record.{record_read}
 use Rattle.esc_records.proofs.AdmissionLaws.{admitted-unread, admitted-read}
-use borrow.Author.Rules.{rules}
 use Rattle.esc_records.proofs.admission.admit.Goals as goal
 
 pub returns-then-takes : goal.returns-then-takes

@@ -6,7 +6,6 @@ use Rattle.esc_records.specs.Admission.{opens}
 use Rattle.esc_feedback.specs.declared.config.EscManagerConfig.{EscManagerConfig}
 use Rattle.esc_records.specs.declared.record.Record.{Record}
 use Rattle.esc_records.specs.declared.record.Record.TheVariants as kind
-use borrow.Author.Rules.{rules}
 use Rattle.esc_records.proofs.admission.opens.Goals as goal
 
 not-open : (r : Record) → ((c : EscManagerConfig) (t : ℕ) → r ≡ kind.Open c t → ⊥) → false ≡ opens r

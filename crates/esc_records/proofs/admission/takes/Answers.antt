@@ -1,5 +1,4 @@
 -- An opened unit takes every record, another one only a 00.
-use borrow.Author.Rules.{rules}
 use Rattle.esc_records.proofs.admission.takes.Goals as goal
 
 pub returns-then-opened : goal.returns-then-opened

@@ -1,5 +1,4 @@
 -- Each width is a digit of the layout.
-use borrow.Author.Rules.{rules}
 use Rattle.esc_records.specs.Fields.{field_widths}
 use Rattle.esc_records.proofs.fields.field_widths.Goals as goal
 

@@ -1,5 +1,4 @@
 -- Past the last kind stands nothing.
-use borrow.Author.Rules.{rules}
 use native.Mathlib.Omega.{arith}
 use Rattle.esc_records.specs.Fields.{layouts}
 use Rattle.esc_records.proofs.LayoutLaws.{beyond}

@@ -1,5 +1,4 @@
 -- Each width that the kinds have is the loop at a constant; the bytes that end before give 0.
-use borrow.Author.Rules.{rules}
 use native.Mathlib.Omega.{arith}
 use mathlib.Core.Path.{refl, sym}
 use Rattle.esc_records.proofs.ReaderLaws.{in-none, in-short, zero-below, found}

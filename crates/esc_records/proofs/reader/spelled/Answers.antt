@@ -1,8 +1,6 @@
 -- The number of the bytes read so far, one byte a turn.
-use borrow.Author.Rules.{rules}
 use native.Mathlib.Omega.{arith}
 use mathlib.Core.Path.{◌≡◌, refl}
-use Prim.Native.Nat.{◌-◌, ◌^◌, ◌≤◌, ◌<◌}
 use Rattle.base.specs.BigEndian.{number_at}
 use Rattle.base.proofs.NumberLaws.{number_more, below_more, seven-fit}
 use Rattle.esc_records.proofs.reader.spelled.Goals as goal

@@ -1,10 +1,7 @@
 -- The number of the bytes read so far, one byte a turn.
-use borrow.Author.Rules.{rules}
-use native.Mathlib.Omega.{arith}
-use mathlib.Core.Path.{◌≡◌, refl}
+use mathlib.Core.Path.{◌≡◌}
 use Prim.Native.Nat.{◌-◌, ◌^◌, ◌≤◌, ◌<◌}
 use Rattle.base.specs.BigEndian.{number_at}
-use Rattle.base.proofs.NumberLaws.{number_more, below_more, seven-fit}
 use Rattle.esc_records.proofs.reader.spelled.Given as goal
 
 abbrev pub invariant-loop-read : goal.invariant-loop-read

@@ -1,14 +1,8 @@
 -- One law of reading for each return.
-use borrow.Author.Rules.{rules}
 use native.Mathlib.Omega.{arith}
-use mathlib.Core.Path.{◌≡◌, ◌∙◌, sym, ap}
-use mathlib.Core.List.{List}
-use Prim.Native.Nat.{ℕ}
-use lib.ListN.{get_or}
-use borrow.Author.Tests.{not-true, not-false}
+use mathlib.Core.Path.{◌∙◌, sym, ap}
 use Rattle.esc_records.specs.Record.{width_of}
 use Rattle.esc_records.specs.Whole.{Whole}
-use Rattle.esc_records.specs.Fields.{Found}
 use Rattle.esc_records.proofs.FieldLaws.{first-is, end_is}
 use Rattle.esc_records.proofs.RecordLaws.{read-empty, read-kind, read_length, read-lane, read-flag, read-accepted}
 use Rattle.esc_records.proofs.record.read_record.Goals.{Else-bytes-fields}

@@ -4,7 +4,6 @@ use Rattle.esc_records.specs.Record.{record_of}
 use Rattle.esc_records.specs.Fields.{layouts, field_widths}
 use Rattle.esc_records.proofs.ReaderLaws.{one_byte}
 use Rattle.esc_records.proofs.FieldLaws.{known, kind_number, numbers_of-fields}
-use Rattle.esc_records.proofs.RecordLaws.{past, else-report}
 use Rattle.esc_records.proofs.record.record_of.Goals as goal
 
 pub overflow_cast-result : goal.overflow_cast-result

@@ -1,6 +1,5 @@
 -- The length first, then the count of each motor.
-use borrow.Author.Rules.{rules}
-use borrow.Author.Tests.{eq-eqb, ne_eqb, not-true, not-false}
+use borrow.Author.Tests.{eq-eqb, ne_eqb}
 use mathlib.Core.Path.{◌∙◌, sym}
 use Rattle.airframe.specs.BoardMap.{read_map}
 use Rattle.airframe.proofs.board_map.BoardMap.from_bytes.Goals as goal

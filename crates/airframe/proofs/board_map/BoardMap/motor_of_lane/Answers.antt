@@ -1,5 +1,4 @@
 -- The byte is read, and the lane converted.
-use borrow.Author.Rules.{rules}
 use Rattle.airframe.proofs.board_map.BoardMap.motor_of_lane.Goals as goal
 
 pub returns-in_default : goal.returns-in_default

@@ -1,5 +1,4 @@
 -- One output after the other.
-use borrow.Author.Rules.{rules}
 use mathlib.Core.Path.{◌∙◌, sym}
 use Rattle.airframe.specs.BoardMap.{output_with}
 use Rattle.airframe.proofs.board_map.BoardMap.output.Goals as goal

@@ -1,5 +1,4 @@
 -- The byte is read, and the motor converted.
-use borrow.Author.Rules.{rules}
 use Rattle.airframe.proofs.board_map.BoardMap.output_of_motor.Goals as goal
 
 pub returns-in_default : goal.returns-in_default

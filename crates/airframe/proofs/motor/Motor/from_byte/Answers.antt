@@ -1,5 +1,4 @@
 -- One test after the other.
-use borrow.Author.Rules.{rules}
 use borrow.Author.Tests.{le-leb, lt-leb}
 use Rattle.airframe.specs.Motor.{read_motor}
 use Rattle.airframe.proofs.motor.Motor.from_byte.Goals as goal

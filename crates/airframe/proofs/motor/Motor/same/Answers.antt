@@ -1,5 +1,4 @@
 -- Two motors are the same where their numbers are.
-use borrow.Author.Rules.{rules}
 use Rattle.airframe.proofs.motor.Motor.same.Goals as goal
 
 pub returns : goal.returns

@@ -2,7 +2,6 @@
 use mathlib.Core.Path.{sym}
 use borrow.Author.Tests.{not-true, not-false}
 use Rattle.esc_books.proofs.BooksLaws.{booked-unchecked, booked-checked}
-use borrow.Author.Rules.{rules}
 use Rattle.esc_books.proofs.books.Books.booked.Goals as goal
 
 pub returns-then-not-books : goal.returns-then-not-books

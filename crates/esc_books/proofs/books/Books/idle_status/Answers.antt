@@ -2,7 +2,6 @@
 use mathlib.Core.Path.{sym}
 use borrow.Author.Tests.{not-true, not-false}
 use Rattle.esc_books.proofs.BooksLaws.{status-unchecked, status-checked}
-use borrow.Author.Rules.{rules}
 use Rattle.esc_books.proofs.books.Books.idle_status.Goals as goal
 
 pub returns-then-not-self : goal.returns-then-not-self

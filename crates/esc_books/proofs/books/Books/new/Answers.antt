@@ -1,5 +1,4 @@
 -- Each part starts as its own `new` says.
-use borrow.Author.Rules.{rules}
 use Rattle.esc_books.proofs.books.Books.new.Goals as goal
 
 pub returns : goal.returns

@@ -2,7 +2,6 @@
 use mathlib.Core.Path.{ap}
 use Rattle.esc_lanes.specs.declared.samples.EscSamples.{EscSamples}
 use Rattle.esc_books.specs.Books.{books_of}
-use borrow.Author.Rules.{rules}
 use Rattle.esc_books.proofs.books.Books.samples_dropped.Goals as goal
 
 pub returns : goal.returns

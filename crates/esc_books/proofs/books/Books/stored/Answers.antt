@@ -1,6 +1,5 @@
 -- A lane has a sample or none.
 use mathlib.Core.Path.{sym, ◌∙◌}
-use borrow.Author.Rules.{rules}
 use Rattle.esc_books.proofs.books.Books.stored.Goals as goal
 
 pub returns-in-None : goal.returns-in-None

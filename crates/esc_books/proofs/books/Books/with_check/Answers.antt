@@ -1,5 +1,4 @@
 -- The new check stands where the old one did.
-use borrow.Author.Rules.{rules}
 use Rattle.esc_books.proofs.books.Books.with_check.Goals as goal
 
 pub returns : goal.returns

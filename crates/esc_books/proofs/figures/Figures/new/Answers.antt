@@ -1,5 +1,4 @@
 -- Four lanes with no figures.
-use borrow.Author.Rules.{rules}
 use Rattle.esc_books.proofs.figures.Figures.new.Goals as goal
 
 pub returns : goal.returns

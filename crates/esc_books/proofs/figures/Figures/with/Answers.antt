@@ -1,5 +1,4 @@
 -- The index is that of one of four lanes, and the figure there takes the sample by the callee.
-use borrow.Author.Rules.{rules}
 use native.Mathlib.Omega.{arith}
 use Rattle.esc_lanes.proofs.OutputLaws.{lane_below}
 use Rattle.esc_books.proofs.figures.Figures.with.Goals as goal

@@ -2,7 +2,6 @@
 use mathlib.Core.Path.{sym}
 use borrow.Author.Tests.{not-true, not-false}
 use Rattle.esc_fault.proofs.FaultLaws.{heard-calm, heard-faulted}
-use borrow.Author.Rules.{rules}
 use Rattle.esc_fault.proofs.fault.Fault.heard.Goals as goal
 
 pub returns-then-not-self : goal.returns-then-not-self

@@ -1,5 +1,4 @@
 -- The rule of saturation is the callee's.
-use borrow.Author.Rules.{rules}
 use Rattle.esc_fault.proofs.fault.Fault.retried.Goals as goal
 
 pub returns : goal.returns

@@ -1,5 +1,5 @@
 -- No request is open any more, and retries are noted where there were any.
-use Rattle.std.proofs.Common.{sym, rules}
+use Rattle.std.proofs.Common.{sym}
 use Rattle.esc_feedback.proofs.DeliveryLaws.{delivered-calm, delivered-back}
 use Rattle.esc_feedback.proofs.manager.EscManager.delivered.Goals as goal
 

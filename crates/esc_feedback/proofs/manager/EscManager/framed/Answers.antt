@@ -1,5 +1,5 @@
 -- One law for each state of the request.
-use Rattle.std.proofs.Common.{sym, rules}
+use Rattle.std.proofs.Common.{sym}
 use Rattle.esc_feedback.proofs.WireLaws.{framed-unsolicited, framed-held, framed-delivered}
 use Rattle.esc_feedback.proofs.manager.EscManager.framed.Goals as goal
 

@@ -1,5 +1,4 @@
 -- Outstanding, turn and count, by the callees.
-use Rattle.std.proofs.Common.{rules}
 use Rattle.esc_feedback.proofs.manager.EscManager.granted.Goals as goal
 
 pub returns : goal.returns

@@ -1,6 +1,5 @@
 -- Yes where the request is the one that exists, else no.
-use Rattle.std.proofs.Common.{sym, ap, ◌∙◌, rules}
-use borrow.Author.Tests.{not-true, not-false}
+use Rattle.std.proofs.Common.{sym, ap, ◌∙◌}
 use Rattle.esc_feedback.specs.Queueing.{is_wanted}
 use Rattle.esc_feedback.proofs.QueueingLaws.{marked-yes, marked-no}
 use Rattle.esc_feedback.proofs.manager.EscManager.mark_request_queued.Goals as goal

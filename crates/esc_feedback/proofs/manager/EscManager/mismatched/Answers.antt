@@ -1,5 +1,4 @@
 -- One count rises.
-use Rattle.std.proofs.Common.{rules}
 use Rattle.esc_feedback.proofs.manager.EscManager.mismatched.Goals as goal
 
 pub returns : goal.returns

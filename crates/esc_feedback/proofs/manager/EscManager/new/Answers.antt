@@ -1,5 +1,4 @@
 -- Each part starts as its own `new` says.
-use Rattle.std.proofs.Common.{rules}
 use Rattle.esc_feedback.proofs.manager.EscManager.new.Goals as goal
 
 pub returns : goal.returns

@@ -1,6 +1,5 @@
 -- One law for each reason to want none, and one for the request that is wanted.
-use Rattle.std.proofs.Common.{sym, ◌∙◌, rules}
-use borrow.Author.Tests.{not-true, not-false}
+use Rattle.std.proofs.Common.{sym, ◌∙◌}
 use Rattle.esc_feedback.proofs.QueueingLaws.{none-faulted, none_open, none-booting, none-early, some-wanted}
 use Rattle.esc_feedback.proofs.manager.EscManager.next_request.Goals as goal
 

@@ -1,6 +1,5 @@
 -- One law for what is left early, one for another request, one for the queued one.
-use Rattle.std.proofs.Common.{sym, ◌∙◌, rules}
-use borrow.Author.Tests.{not-true, not-false}
+use Rattle.std.proofs.Common.{sym, ◌∙◌}
 use Rattle.esc_feedback.proofs.AckLaws.{ack-else, ack-other, ack-same}
 use Rattle.esc_feedback.proofs.manager.EscManager.on_actuator_ack.Goals as goal
 

@@ -1,5 +1,5 @@
 -- One law for each timeout before its time and from then on.
-use Rattle.std.proofs.Common.{sym, ◌∙◌, rules}
+use Rattle.std.proofs.Common.{sym, ◌∙◌}
 use Rattle.esc_feedback.proofs.TimeoutLaws.{polled-closed, ack-waits, ack-due, response-waits, response-due}
 use Rattle.esc_feedback.proofs.manager.EscManager.poll_timeout.Goals as goal
 

@@ -1,5 +1,5 @@
 -- The parser takes the byte; one law for each thing that it brings out.
-use Rattle.std.proofs.Common.{sym, rules}
+use Rattle.std.proofs.Common.{sym}
 use Rattle.esc_feedback.proofs.WireLaws.{pushed-nothing, pushed-sample}
 use Rattle.esc_feedback.proofs.manager.EscManager.push_wire_byte.Goals as goal
 

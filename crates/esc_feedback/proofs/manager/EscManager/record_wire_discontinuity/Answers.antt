@@ -1,5 +1,4 @@
 -- The parser is emptied.
-use Rattle.std.proofs.Common.{rules}
 use Rattle.esc_feedback.proofs.manager.EscManager.record_wire_discontinuity.Goals as goal
 
 pub returns : goal.returns

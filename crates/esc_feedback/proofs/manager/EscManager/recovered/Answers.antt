@@ -1,5 +1,4 @@
 -- Wire, request, fault and count, by the callees.
-use Rattle.std.proofs.Common.{rules}
 use Rattle.esc_feedback.proofs.manager.EscManager.recovered.Goals as goal
 
 pub returns : goal.returns

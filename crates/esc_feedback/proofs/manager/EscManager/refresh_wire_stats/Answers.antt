@@ -1,5 +1,4 @@
 -- The parser's counts are copied.
-use Rattle.std.proofs.Common.{rules}
 use Rattle.esc_feedback.proofs.manager.EscManager.refresh_wire_stats.Goals as goal
 
 pub returns : goal.returns

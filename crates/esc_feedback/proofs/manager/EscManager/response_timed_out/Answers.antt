@@ -1,5 +1,4 @@
 -- The request is given up, and one count rises.
-use Rattle.std.proofs.Common.{rules}
 use Rattle.esc_feedback.proofs.manager.EscManager.response_timed_out.Goals as goal
 
 pub returns : goal.returns

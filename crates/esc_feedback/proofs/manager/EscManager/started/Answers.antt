@@ -1,5 +1,4 @@
 -- A frame was held, or it is waited for.
-use Rattle.std.proofs.Common.{rules}
 use Rattle.esc_feedback.proofs.manager.EscManager.started.Goals as goal
 
 pub returns-in-None : goal.returns-in-None

@@ -1,5 +1,4 @@
 -- Outstanding and fault, by the callees.
-use Rattle.std.proofs.Common.{rules}
 use Rattle.esc_feedback.proofs.manager.EscManager.timed_out.Goals as goal
 
 pub returns : goal.returns

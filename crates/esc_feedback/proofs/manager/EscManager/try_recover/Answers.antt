@@ -1,6 +1,5 @@
 -- Yes where the fault's rule allows it, else no.
-use Rattle.std.proofs.Common.{sym, ◌∙◌, rules}
-use borrow.Author.Tests.{not-true, not-false}
+use Rattle.std.proofs.Common.{sym, ◌∙◌}
 use Rattle.esc_feedback.proofs.RecoveryLaws.{recovered-yes, recovered-no}
 use Rattle.esc_feedback.proofs.manager.EscManager.try_recover.Goals as goal
 

@@ -1,5 +1,4 @@
 -- Nothing was counted, on the wire either.
-use Rattle.std.proofs.Common.{rules}
 use Rattle.esc_feedback.proofs.stats.EscManagerStats.new.Goals as goal
 
 pub returns : goal.returns

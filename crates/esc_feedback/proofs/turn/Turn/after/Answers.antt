@@ -1,5 +1,4 @@
 -- The lane after, and one more sequence, are the callees'.
-use Rattle.std.proofs.Common.{rules}
 use Rattle.esc_feedback.proofs.turn.Turn.after.Goals as goal
 
 pub returns : goal.returns

@@ -1,5 +1,4 @@
 -- A period is due since the last queueing, or there was none.
-use Rattle.std.proofs.Common.{rules}
 use Rattle.esc_feedback.proofs.turn.Turn.period_due.Goals as goal
 
 pub returns-in-At : goal.returns-in-At

@@ -1,5 +1,4 @@
 -- The pass over the lanes, and nothing else.
-use borrow.Author.Rules.{rules}
 use Rattle.esc_idle.proofs.idle.EscIdleQualification.fresh_at.Goals as goal
 
 pub returns : goal.returns

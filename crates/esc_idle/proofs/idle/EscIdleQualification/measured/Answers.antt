@@ -1,5 +1,4 @@
 -- One law for each side of the upper limit.
-use borrow.Author.Rules.{rules}
 use mathlib.Core.Path.{sym, ◌∙◌}
 use Rattle.esc_idle.proofs.IdleLaws.{measured-overspeed, measured-counted}
 use Rattle.esc_idle.proofs.idle.EscIdleQualification.measured.Goals as goal

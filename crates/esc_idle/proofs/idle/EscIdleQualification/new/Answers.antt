@@ -1,5 +1,4 @@
 -- Four clear lanes.
-use borrow.Author.Rules.{rules}
 use Rattle.esc_idle.proofs.idle.EscIdleQualification.new.Goals as goal
 
 pub returns : goal.returns

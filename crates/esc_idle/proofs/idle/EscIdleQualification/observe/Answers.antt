@@ -1,8 +1,6 @@
 -- A verdict stands, the sample is ignored, or it is measured.
 use mathlib.Core.Path.{sym, ◌∙◌}
-use borrow.Author.Tests.{not-true, not-false}
 use Rattle.esc_idle.proofs.IdleLaws.{observe-stands, observe-ignored, observe-measured}
-use borrow.Author.Rules.{rules}
 use Rattle.esc_idle.proofs.idle.EscIdleQualification.observe.Goals as goal
 
 pub returns-in-Some : goal.returns-in-Some

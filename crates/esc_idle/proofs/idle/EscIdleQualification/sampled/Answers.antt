@@ -1,5 +1,4 @@
 -- The index is that of one of four lanes, and the lane there is counted by the callee.
-use borrow.Author.Rules.{rules}
 use native.Mathlib.Omega.{arith}
 use Rattle.esc_lanes.proofs.OutputLaws.{lane_below}
 use Rattle.esc_idle.proofs.idle.EscIdleQualification.sampled.Goals as goal

@@ -6,7 +6,6 @@ use Rattle.esc_idle.specs.Idle.{standing}
 use Rattle.esc_idle.specs.declared.idle_verdict.EscIdleQualificationFailure.TheVariants.{InvalidConfig}
 use Rattle.esc_idle.specs.declared.idle_verdict.EscIdleQualificationStatus.TheVariants.{Failed}
 use Rattle.esc_idle.specs.declared.idle_verdict.Terminal.TheVariants.{None, Some}
-use borrow.Author.Rules.{rules}
 use Rattle.esc_idle.proofs.idle.EscIdleQualification.standing.Goals as goal
 
 pub returns-in-Some : goal.returns-in-Some

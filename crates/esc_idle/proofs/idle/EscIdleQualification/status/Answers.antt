@@ -1,7 +1,6 @@
 -- A verdict stands, or the counts are weighed.
 use mathlib.Core.Path.{sym, ◌∙◌}
 use Rattle.esc_idle.proofs.IdleLaws.{status-stands, status-open}
-use borrow.Author.Rules.{rules}
 use Rattle.esc_idle.proofs.idle.EscIdleQualification.status.Goals as goal
 
 pub returns-in-Some : goal.returns-in-Some

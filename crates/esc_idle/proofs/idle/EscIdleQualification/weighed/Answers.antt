@@ -1,5 +1,4 @@
 -- One law for each answer.
-use borrow.Author.Rules.{rules}
 use mathlib.Core.Path.{sym, ◌∙◌}
 use Rattle.esc_idle.proofs.IdleLaws.{weighed-qualified, weighed-timed-out, weighed-pending}
 use Rattle.esc_idle.proofs.idle.EscIdleQualification.weighed.Goals as goal

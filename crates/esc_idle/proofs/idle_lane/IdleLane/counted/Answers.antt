@@ -1,5 +1,4 @@
 -- One law for each side of the lower limit.
-use borrow.Author.Rules.{rules}
 use mathlib.Core.Path.{sym, ◌∙◌}
 use Rattle.esc_idle.proofs.IdleLaneLaws.{count-cleared, count-risen}
 use Rattle.esc_idle.proofs.idle_lane.IdleLane.counted.Goals as goal

@@ -1,5 +1,4 @@
 -- One law for each answer of is_expired.
-use borrow.Author.Rules.{rules}
 use mathlib.Core.Path.{sym, ◌∙◌}
 use Rattle.esc_idle.proofs.IdleLaneLaws.{expire-cleared, expire-kept}
 use Rattle.esc_idle.proofs.idle_lane.IdleLane.expire.Goals as goal

@@ -1,5 +1,4 @@
 -- With no newest there is nothing to expire; else it is Due at one more than the age limit.
-use borrow.Author.Rules.{rules}
 use native.Mathlib.Omega.{arith}
 use mathlib.Core.Path.{sym, ap, ◌∙◌}
 use Rattle.base.specs.Due.{due}

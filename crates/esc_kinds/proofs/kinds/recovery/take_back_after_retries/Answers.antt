@@ -1,6 +1,5 @@
 -- The note is taken, and it is the answer.
 use Rattle.esc_kinds.specs.Step.{step_of}
-use borrow.Author.Rules.{rules}
 use Rattle.esc_kinds.proofs.kinds.recovery.take_back_after_retries.Goals as goal
 
 pub returns : goal.returns

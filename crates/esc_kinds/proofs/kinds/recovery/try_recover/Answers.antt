@@ -4,7 +4,6 @@ use mathlib.Core.Bool.{true, false}
 use Rattle.esc_feedback.specs.declared.manager.recovery.Recovered.{Recovered}
 use borrow.Author.Tests.{not-true, not-false}
 use Rattle.esc_kinds.proofs.StepLaws.{step-recovery}
-use borrow.Author.Rules.{rules}
 use Rattle.esc_kinds.proofs.kinds.recovery.try_recover.Goals as goal
 
 pub returns-then-not-recovered : goal.returns-then-not-recovered

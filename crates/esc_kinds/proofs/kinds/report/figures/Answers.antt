@@ -1,6 +1,5 @@
 -- The books show the figures, and nothing changes.
 use Rattle.esc_kinds.specs.Step.{step_of}
-use borrow.Author.Rules.{rules}
 use Rattle.esc_kinds.proofs.kinds.report.figures.Goals as goal
 
 pub returns : goal.returns

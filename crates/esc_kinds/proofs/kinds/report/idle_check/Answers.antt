@@ -1,6 +1,5 @@
 -- The books with the new check, and the manager as it was.
 use Rattle.esc_kinds.specs.Step.{step_of}
-use borrow.Author.Rules.{rules}
 use Rattle.esc_kinds.proofs.kinds.report.idle_check.Goals as goal
 
 pub returns : goal.returns

@@ -1,6 +1,5 @@
 -- The books keep the verdict, and it is the answer.
 use Rattle.esc_kinds.specs.Step.{step_of}
-use borrow.Author.Rules.{rules}
 use Rattle.esc_kinds.proofs.kinds.report.idle_status.Goals as goal
 
 pub returns : goal.returns

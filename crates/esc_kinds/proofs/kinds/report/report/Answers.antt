@@ -1,6 +1,5 @@
 -- Each shown value is the one of the report.
 use Rattle.esc_kinds.specs.Step.{step_of}
-use borrow.Author.Rules.{rules}
 use Rattle.esc_kinds.proofs.kinds.report.report.Goals as goal
 
 pub returns : goal.returns

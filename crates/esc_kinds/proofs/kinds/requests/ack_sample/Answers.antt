@@ -1,5 +1,4 @@
 -- The books with the sample, and their status behind it.
-use borrow.Author.Rules.{rules}
 use Rattle.esc_kinds.proofs.kinds.requests.ack_sample.Goals as goal
 
 pub returns : goal.returns

@@ -1,6 +1,5 @@
 -- The manager after the notice, and what it decided.
 use Rattle.esc_kinds.specs.Step.{step_of}
-use borrow.Author.Rules.{rules}
 use Rattle.esc_kinds.proofs.kinds.requests.mark_request_queued.Goals as goal
 
 pub returns : goal.returns

@@ -1,6 +1,5 @@
 -- The manager answers, and nothing changes.
 use Rattle.esc_kinds.specs.Step.{step_of}
-use borrow.Author.Rules.{rules}
 use Rattle.esc_kinds.proofs.kinds.requests.next_request.Goals as goal
 
 pub returns : goal.returns

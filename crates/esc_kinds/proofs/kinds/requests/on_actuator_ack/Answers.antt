@@ -1,7 +1,6 @@
 -- The outcome decides what becomes of the books.
 use mathlib.Core.Path.{sym}
 use Rattle.esc_kinds.proofs.StepLaws.{step-ack}
-use borrow.Author.Rules.{rules}
 use Rattle.esc_kinds.proofs.kinds.requests.on_actuator_ack.Goals as goal
 
 pub returns-in-Rejected : goal.returns-in-Rejected

@@ -1,6 +1,5 @@
 -- The manager after the poll, and what it gave up.
 use Rattle.esc_kinds.specs.Step.{step_of}
-use borrow.Author.Rules.{rules}
 use Rattle.esc_kinds.proofs.kinds.requests.poll_timeout.Goals as goal
 
 pub returns : goal.returns

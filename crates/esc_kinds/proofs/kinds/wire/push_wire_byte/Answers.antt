@@ -1,7 +1,6 @@
 -- A delivered sample goes to the books, and nothing else does.
 use mathlib.Core.Path.{sym}
 use Rattle.esc_kinds.proofs.StepLaws.{step-byte}
-use borrow.Author.Rules.{rules}
 use Rattle.esc_kinds.proofs.kinds.wire.push_wire_byte.Goals as goal
 
 pub returns-in-None : goal.returns-in-None

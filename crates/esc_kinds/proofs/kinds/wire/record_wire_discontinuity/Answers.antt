@@ -1,6 +1,5 @@
 -- The manager after the cut, and nothing else changes.
 use Rattle.esc_kinds.specs.Step.{step_of}
-use borrow.Author.Rules.{rules}
 use Rattle.esc_kinds.proofs.kinds.wire.record_wire_discontinuity.Goals as goal
 
 pub returns : goal.returns

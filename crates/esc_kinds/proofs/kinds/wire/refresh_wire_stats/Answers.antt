@@ -1,6 +1,5 @@
 -- The manager with the parser's counts, and nothing else changes.
 use Rattle.esc_kinds.specs.Step.{step_of}
-use borrow.Author.Rules.{rules}
 use Rattle.esc_kinds.proofs.kinds.wire.refresh_wire_stats.Goals as goal
 
 pub returns : goal.returns

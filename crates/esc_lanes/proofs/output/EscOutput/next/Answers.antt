@@ -1,5 +1,4 @@
 -- The number after a lane's is the number of the lane after it.
-use borrow.Author.Rules.{rules}
 use native.Mathlib.Omega.{arith}
 use Rattle.esc_lanes.proofs.OutputLaws.{lane_below, after-number}
 use Rattle.esc_lanes.proofs.output.EscOutput.next.Goals as goal

@@ -1,5 +1,4 @@
 -- The constant's order is the definition's.
-use borrow.Author.Rules.{rules}
 use mathlib.Core.Path.{refl, sym}
 use Rattle.esc_lanes.proofs.OutputLaws.{past-last}
 use Rattle.esc_lanes.proofs.output.EscOutput.of_index.Goals as goal

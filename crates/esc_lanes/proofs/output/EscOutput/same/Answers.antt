@@ -1,5 +1,4 @@
 -- Two outputs are the same where their lanes are.
-use borrow.Author.Rules.{rules}
 use Rattle.esc_lanes.proofs.output.EscOutput.same.Goals as goal
 
 pub returns : goal.returns

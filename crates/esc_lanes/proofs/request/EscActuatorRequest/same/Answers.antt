@@ -1,6 +1,5 @@
 -- Sequence first, then lane.
 use borrow.Author.Tests.{eq-eqb, ne_eqb}
-use borrow.Author.Rules.{rules}
 use Rattle.esc_lanes.specs.Request.{same_request}
 use Rattle.esc_lanes.proofs.request.EscActuatorRequest.same.Goals as goal
 

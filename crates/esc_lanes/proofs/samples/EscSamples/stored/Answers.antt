@@ -1,6 +1,5 @@
 -- A lane has its place in the array.
 use Rattle.esc_lanes.proofs.OutputLaws.{lane_below}
-use borrow.Author.Rules.{rules}
 use native.Mathlib.Omega.{arith}
 use Rattle.esc_lanes.proofs.samples.EscSamples.stored.Goals as goal
 

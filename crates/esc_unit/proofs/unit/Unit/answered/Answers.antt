@@ -2,7 +2,6 @@
 use mathlib.Core.Path.{sym, ap, ◌∙◌}
 use Rattle.base.specs.Handed.{handed}
 use Rattle.esc_unit.proofs.CallLaws.{meets-space, meets-answer}
-use borrow.Author.Rules.{rules}
 use Rattle.esc_unit.proofs.unit.Unit.answered.Goals as goal
 
 pub returns-in_default : goal.returns-in_default

@@ -3,7 +3,6 @@ use mathlib.Core.Path.{refl, sym, ap, ◌∙◌}
 use Rattle.esc_records.specs.Record.{record_read}
 use Rattle.esc_unit.proofs.UnitLaws.{call-refused, call-taken}
 use Rattle.esc_unit.proofs.CallLaws.{meets-refusal}
-use borrow.Author.Rules.{rules}
 use Rattle.esc_unit.proofs.unit.Unit.call.Goals as goal
 
 pub returns-in-Record : goal.returns-in-Record

@@ -1,8 +1,6 @@
 -- Refused before the first 00, else stepped.
 use mathlib.Core.Path.{sym, ◌∙◌}
-use borrow.Author.Tests.{not-true, not-false}
 use Rattle.esc_unit.proofs.UnitLaws.{enter-refused, enter-accepted}
-use borrow.Author.Rules.{rules}
 use Rattle.esc_unit.proofs.unit.Unit.step.Goals as goal
 
 pub returns-then-not-takes : goal.returns-then-not-takes
