@@ -13,13 +13,13 @@ mod texts;
 use crate::files::answer_all;
 use crate::options::no_option;
 
-fn main() {
+fn main(rt: HostRuntime) {
     // one more than any path has, so that an argument that is cut names no file and is no known option
-    let mut text = io::buffer();
-    if !no_option(&mut text) {
+    let mut text = [0u8; 4096];
+    if !no_option(&rt, &mut text) {
         return;
     }
-    let mut input = io::large_buffer();
-    let mut out = io::large_buffer();
-    answer_all(&mut text, &mut input, &mut out);
+    let mut input = [0u8; 65536];
+    let mut out = [0u8; 65536];
+    answer_all(&rt, &mut text, &mut input, &mut out);
 }

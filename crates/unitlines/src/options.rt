@@ -1,27 +1,25 @@
 // The first look at the arguments, before anything is opened.
-use crate::arguments::argument_text;
+use crate::arguments::{argument_count, argument_text};
 use crate::messages::unknown_option;
 use crate::texts::{print_help, print_version};
 use command_line::{Argument, classify};
 
 // Does what the first option asks. Whether there was none, so that the files are to be answered.
-pub(crate) fn no_option(text: &mut [u8]) -> bool {
-    let count = os::arg_count();
-    let mut i: usize = 1;
-    while i < count {
-        let n = argument_text(i, text);
+pub(crate) fn no_option(rt: &HostRuntime, text: &mut [u8]) -> bool {
+    for i in 1..argument_count(rt) {
+        let n = argument_text(rt, i, text);
         let kind = classify(&text[..n], true);
         match kind {
             Argument::Help => {
-                print_help();
+                print_help(rt);
                 return false;
             }
             Argument::Version => {
-                print_version();
+                print_version(rt);
                 return false;
             }
             Argument::UnknownOption => {
-                unknown_option(&text[..n]);
+                unknown_option(rt, &text[..n]);
                 return false;
             }
             Argument::EndOfOptions => {
@@ -30,7 +28,6 @@ pub(crate) fn no_option(text: &mut [u8]) -> bool {
             Argument::Input => {}
             Argument::File => {}
         }
-        i += 1;
     }
     true
 }

@@ -5,19 +5,18 @@ ghost use Rattle.std.specs.Prelude.{◌≡◌};
 ghost use Rattle.unit_text.specs.Stream.{printed, printed_at_end};
 ghost use Rattle.unit_text.specs.Streams.{streamed};
 
-use libc::STDOUT_FILENO;
 use unit_text::Stream;
 
 // Writes what a stream prints at a part of the input.
-pub(crate) fn write_printed(stream: Stream, part: &[u8], text: &[u8]) -> bool
+pub(crate) fn write_printed(rt: &impl Print, stream: Stream, part: &[u8], text: &[u8]) -> bool
     requires { text.now ≡ printed (streamed stream) part.now }
 {
-    io::write_all(STDOUT_FILENO, text)
+    rt.write_all(text).is_ok()
 }
 
 // Writes what a stream prints at the end of the input.
-pub(crate) fn write_end(stream: Stream, text: &[u8]) -> bool
+pub(crate) fn write_end(rt: &impl Print, stream: Stream, text: &[u8]) -> bool
     requires { text.now ≡ printed_at_end (streamed stream) }
 {
-    io::write_all(STDOUT_FILENO, text)
+    rt.write_all(text).is_ok()
 }

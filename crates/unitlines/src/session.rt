@@ -1,4 +1,4 @@
-// One session: lines of records from a descriptor, a line with the answer to each on standard output.
+// One session: lines of records from a reader, a line with the answer to each on standard output.
 // It only reads and writes; what is printed is the stream's.
 ghost use Rattle.std.specs.Prelude.{◌≡◌, true, ◌≤◌, length};
 ghost use Rattle.unit_text.specs.Stream.{after, longest_line};
@@ -6,6 +6,7 @@ ghost use Rattle.unit_text.specs.Streams.{streamed};
 
 use crate::output::{write_end, write_printed};
 use base::Handed;
+use std::io::Read;
 use unit_text::Stream;
 
 // The stream after a chunk, and whether all that it printed was written.
@@ -16,7 +17,7 @@ struct Pumped {
 }
 
 // Feeds all of a chunk to a stream.
-fn pump(stream: Stream, chunk: &[u8], out: &mut [u8]) -> Pumped
+fn pump(rt: &impl Print, stream: Stream, chunk: &[u8], out: &mut [u8]) -> Pumped
     requires { longest_line ≤ length out.old }
     ensures { result.ok ≡ true → streamed result.stream ≡ after (streamed stream) chunk.now }
 {
@@ -29,7 +30,7 @@ fn pump(stream: Stream, chunk: &[u8], out: &mut [u8]) -> Pumped
         let written = fed.written;
         stream = fed.stream;
         used += fed.used;
-        if !write_printed(before, &chunk[from..used], &out[..written]) {
+        if !write_printed(rt, before, &chunk[from..used], &out[..written]) {
             return Pumped { stream, ok: false };
         }
     }
@@ -37,12 +38,12 @@ fn pump(stream: Stream, chunk: &[u8], out: &mut [u8]) -> Pumped
 }
 
 // Writes what the end of input prints.
-fn finish(stream: Stream, out: &mut [u8]) -> bool {
+fn finish(rt: &impl Print, stream: Stream, out: &mut [u8]) -> bool {
     let end = stream.finish(out);
     let Handed::Written(n) = end else {
         return false;
     };
-    write_end(stream, &out[..n])
+    write_end(rt, stream, &out[..n])
 }
 
 // How a session ended.
@@ -55,25 +56,21 @@ pub(crate) enum Ended {
 
 // Reads to the end of input. A loop has to end, and nothing says that the input does: the count of
 // reads ends it, and no input is that long.
-pub(crate) fn run(fd: i32, input: &mut [u8], out: &mut [u8]) -> Ended
+pub(crate) fn run(rt: &impl Print, from: &mut impl Read, input: &mut [u8], out: &mut [u8]) -> Ended
     requires { longest_line ≤ length out.old }
 {
     let mut stream = Stream::new();
-    let mut turns = u64::MAX;
-    while turns > 0 {
-        turns -= 1;
-        let got = libc::read(fd, input);
-        if got < 0 {
+    for _ in 0..u64::MAX {
+        let Ok(n) = from.read(input) else {
             return Ended::NotRead;
-        }
-        if got == 0 {
-            if !finish(stream, out) {
+        };
+        if n == 0 {
+            if !finish(rt, stream, out) {
                 return Ended::NotWritten;
             }
             return Ended::Answered;
         }
-        let n = io::count(got, input);
-        let pumped = pump(stream, &input[..n], out);
+        let pumped = pump(rt, stream, &input[..n], out);
         if !pumped.ok {
             return Ended::NotWritten;
         }

@@ -1,14 +1,14 @@
 // What --help and --version print.
 use crate::messages::not_written;
-use libc::STDOUT_FILENO;
 
 // The project's version; tests/arguments.py holds the README to it.
-pub(crate) fn print_version() {
-    print(b"unitlines 0.1.0\n");
+pub(crate) fn print_version(rt: &HostRuntime) {
+    print(rt, b"unitlines 0.1.0\n");
 }
 
-pub(crate) fn print_help() {
+pub(crate) fn print_help(rt: &HostRuntime) {
     print(
+        rt,
         b"usage: unitlines [--] [FILE]...\n\
         Answers records, one in hexadecimal on each line, with a line for each.\n\
         Each FILE is a session of its own; - is standard input, and so is no FILE.\n\
@@ -21,8 +21,8 @@ pub(crate) fn print_help() {
     );
 }
 
-fn print(text: &[u8]) {
-    if !io::write_all(STDOUT_FILENO, text) {
-        not_written();
+fn print(rt: &HostRuntime, text: &[u8]) {
+    if rt.write_all(text).is_err() {
+        not_written(rt);
     }
 }

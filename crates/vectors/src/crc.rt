@@ -3,27 +3,27 @@ use crate::print;
 use blheli_telemetry::crc8;
 
 // The CRC's vectors.
-pub fn run() {
+pub fn run(rt: &impl Print) {
     // Document 01.
-    vector(b"nothing", b"");
-    vector(b"80", b"\x80");
+    vector(rt, b"nothing", b"");
+    vector(rt, b"80", b"\x80");
     // The catalogue of parametrised CRC algorithms, CRC-8/SMBUS: its check value, and its residue, 00,
     // for a message with its own CRC behind it.
-    vector(b"digits", b"123456789");
-    vector(b"digits and their CRC", b"123456789\xf4");
+    vector(rt, b"digits", b"123456789");
+    vector(rt, b"digits and their CRC", b"123456789\xf4");
     // The polynomial itself.
-    vector(b"01", b"\x01");
+    vector(rt, b"01", b"\x01");
     // The MLX90614 data sheet's examples of an SMBus packet error code: a read and a write.
-    vector(b"MLX90614 read", b"\xb4\x07\xb5\xd2\x3a");
-    vector(b"MLX90614 write", b"\xb4\x22\x07\xc8");
+    vector(rt, b"MLX90614 read", b"\xb4\x07\xb5\xd2\x3a");
+    vector(rt, b"MLX90614 write", b"\xb4\x22\x07\xc8");
     // ITU-T I.432.1: the header error control of an idle cell is 52, and that is the CRC plus 55.
-    vector(b"ATM idle cell", b"\x00\x00\x00\x01");
+    vector(rt, b"ATM idle cell", b"\x00\x00\x00\x01");
 }
 
-fn vector(name: &[u8], bytes: &[u8]) {
-    print::text(b"crc8 ");
-    print::text(name);
-    print::text(b": ");
-    print::byte(crc8(bytes));
-    print::text(b"\n");
+fn vector(rt: &impl Print, name: &[u8], bytes: &[u8]) {
+    print::text(rt, b"crc8 ");
+    print::text(rt, name);
+    print::text(rt, b": ");
+    print::byte(rt, crc8(bytes));
+    print::text(rt, b"\n");
 }

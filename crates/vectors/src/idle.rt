@@ -7,7 +7,7 @@ use esc_idle::{EscIdleQualification, EscIdleQualificationConfig, EscIdleQualific
 use esc_lanes::{EscOutput, EscTelemetryObservation, EscTelemetryUpdate, Lane};
 
 // The idle check: which settings are valid, and what it says to samples.
-pub fn run() {
+pub fn run(rt: &impl Print) {
     let config = EscIdleQualificationConfig {
         min_erpm_div100: 30,
         max_erpm_div100: 100,
@@ -16,35 +16,36 @@ pub fn run() {
         max_sample_age_ms: 200,
         required_consecutive_samples: 2,
     };
-    steady(EscIdleQualification::new(config, 0));
-    fast(EscIdleQualification::new(config, 0));
+    steady(rt, EscIdleQualification::new(config, 0));
+    fast(rt, EscIdleQualification::new(config, 0));
 }
 
 // The grace, both limits, a lane that is cleared for being slow, lanes that expire, and every lane counted.
-fn steady(first: EscIdleQualification) {
-    let mut idle = observe(first, Lane::Output1, 50, 9);
-    idle = observe(idle, Lane::Output1, 30, 10);
-    idle = observe(idle, Lane::Output2, 100, 11);
-    idle = observe(idle, Lane::Output1, 29, 12);
-    idle = observe(idle, Lane::Output3, 50, 211);
-    idle = observe(idle, Lane::Output4, 50, 212);
-    idle = observe(idle, Lane::Output4, 51, 213);
-    idle = observe(idle, Lane::Output3, 52, 214);
-    idle = observe(idle, Lane::Output2, 53, 215);
-    idle = observe(idle, Lane::Output1, 54, 216);
-    idle = observe(idle, Lane::Output2, 55, 217);
-    idle = observe(idle, Lane::Output1, 56, 218);
-    observe(idle, Lane::Output1, 57, 5000);
+fn steady(rt: &impl Print, first: EscIdleQualification) {
+    let mut idle = observe(rt, first, Lane::Output1, 50, 9);
+    idle = observe(rt, idle, Lane::Output1, 30, 10);
+    idle = observe(rt, idle, Lane::Output2, 100, 11);
+    idle = observe(rt, idle, Lane::Output1, 29, 12);
+    idle = observe(rt, idle, Lane::Output3, 50, 211);
+    idle = observe(rt, idle, Lane::Output4, 50, 212);
+    idle = observe(rt, idle, Lane::Output4, 51, 213);
+    idle = observe(rt, idle, Lane::Output3, 52, 214);
+    idle = observe(rt, idle, Lane::Output2, 53, 215);
+    idle = observe(rt, idle, Lane::Output1, 54, 216);
+    idle = observe(rt, idle, Lane::Output2, 55, 217);
+    idle = observe(rt, idle, Lane::Output1, 56, 218);
+    observe(rt, idle, Lane::Output1, 57, 5000);
 }
 
 // One above the upper limit.
-fn fast(first: EscIdleQualification) {
-    let mut idle = observe(first, Lane::Output3, 100, 10);
-    idle = observe(idle, Lane::Output3, 101, 11);
-    observe(idle, Lane::Output3, 50, 12);
+fn fast(rt: &impl Print, first: EscIdleQualification) {
+    let mut idle = observe(rt, first, Lane::Output3, 100, 10);
+    idle = observe(rt, idle, Lane::Output3, 101, 11);
+    observe(rt, idle, Lane::Output3, 50, 12);
 }
 
 fn observe(
+    rt: &impl Print,
     idle: EscIdleQualification,
     lane: Lane,
     erpm_div100: u16,
@@ -53,13 +54,14 @@ fn observe(
     let judged = idle.observe(update(lane, erpm_div100, at_ms), at_ms);
     let status = judged.status;
     match status {
-        EscIdleQualificationStatus::Pending => print::text(b"idle pending"),
-        EscIdleQualificationStatus::Qualified => print::text(b"idle qualified"),
-        EscIdleQualificationStatus::Failed(_) => print::text(b"idle failed"),
+        EscIdleQualificationStatus::Pending => print::text(rt, b"idle pending"),
+        EscIdleQualificationStatus::Qualified => print::text(rt, b"idle qualified"),
+        EscIdleQualificationStatus::Failed(_) => print::text(rt, b"idle failed"),
     }
     let after = judged.idle;
     let counts = after.consecutive_samples();
     print::line(
+        rt,
         b"",
         &[
             at_ms,

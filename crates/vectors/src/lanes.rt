@@ -4,17 +4,17 @@ use crate::print;
 use esc_lanes::EscOutput;
 
 // The lanes in the order of `EscOutput::ALL`.
-pub fn run() {
+pub fn run(rt: &impl Print) {
     let all = EscOutput::ALL;
-    lane(all[0]);
-    lane(all[1]);
-    lane(all[2]);
-    lane(all[3]);
+    lane(rt, all[0]);
+    lane(rt, all[1]);
+    lane(rt, all[2]);
+    lane(rt, all[3]);
 }
 
-fn lane(output: EscOutput) {
+fn lane(rt: &impl Print, output: EscOutput) {
     let index = output.index();
     let next = output.next();
     let turn = next.index();
-    print::line(b"lane", &[index as u64, turn as u64]);
+    print::line(rt, b"lane", &[index as u64, turn as u64]);
 }

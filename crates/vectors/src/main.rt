@@ -18,15 +18,15 @@ mod speed;
 mod steps;
 mod streams;
 
-fn main() {
-    crc::run();
-    frames::run();
-    streams::run();
-    captures::run();
-    lanes::run();
-    settings::run();
-    idle::run();
-    board_map::run();
-    speed::run();
-    session::run();
+fn main(rt: HostRuntime) {
+    crc::run(&rt);
+    frames::run(&rt);
+    streams::run(&rt);
+    captures::run(&rt);
+    lanes::run(&rt);
+    settings::run(&rt);
+    idle::run(&rt);
+    board_map::run(&rt);
+    speed::run(&rt);
+    session::run(&rt);
 }

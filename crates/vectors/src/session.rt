@@ -4,12 +4,13 @@ use crate::{calls, steps};
 use esc_unit::Unit;
 
 // One session, each record by a call and by a step.
-pub fn run() {
+pub fn run(rt: &impl Print) {
     // On each line the room lent for the answer, how many bytes the record has, and the record. First
     // before an opening; then document 01's session; an idle check, the next request, queued and
     // acknowledged, and the ten bytes of its frame; what that leaves: the check's status, the note of
     // retries, the report, samples and figures; then what is refused: kind, length, lane, flag, space.
     each(
+        rt,
         b"\x2b\x01\x06\
         \x2b\x01\x0f\
         \x2b\x01\x00\
@@ -56,7 +57,7 @@ pub fn run() {
 }
 
 // What each record is answered by a call and by a step of the unit that the call before left.
-fn each(records: &[u8]) {
+fn each(rt: &impl Print, records: &[u8]) {
     let mut unit = Unit::new();
     let mut at: usize = 0;
     while records.len() - at > 1 {
@@ -69,8 +70,8 @@ fn each(records: &[u8]) {
         let end = at + n;
         let record = &records[at..end];
         at = end;
-        steps::step(unit, record);
-        unit = calls::call(unit, room, record);
+        steps::step(rt, unit, record);
+        unit = calls::call(rt, unit, room, record);
     }
 }
 

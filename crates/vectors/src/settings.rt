@@ -9,21 +9,22 @@ use esc_idle::{
 };
 
 // The settings that the boards fly, and the constants.
-pub fn run() {
-    named();
-    check(DSHOT_IDLE_QUALIFICATION_CONFIG);
-    check(dshot_idle_qualification_config());
-    check(settings(0, 100, 250, 1200, 200, 3));
-    check(settings(1, 2, 0, 1, 1, 1));
-    check(settings(100, 100, 250, 1200, 200, 3));
-    check(settings(30, 100, 1200, 1200, 200, 3));
-    check(settings(30, 100, 250, 1200, 0, 3));
-    check(settings(30, 100, 250, 1200, 200, 0));
+pub fn run(rt: &impl Print) {
+    named(rt);
+    check(rt, DSHOT_IDLE_QUALIFICATION_CONFIG);
+    check(rt, dshot_idle_qualification_config());
+    check(rt, settings(0, 100, 250, 1200, 200, 3));
+    check(rt, settings(1, 2, 0, 1, 1, 1));
+    check(rt, settings(100, 100, 250, 1200, 200, 3));
+    check(rt, settings(30, 100, 1200, 1200, 200, 3));
+    check(rt, settings(30, 100, 250, 1200, 0, 3));
+    check(rt, settings(30, 100, 250, 1200, 200, 0));
 }
 
-fn named() {
+fn named(rt: &impl Print) {
     let config = EscManagerConfig::legacy_uart();
     print::line(
+        rt,
         b"settings legacy_uart",
         &[
             config.boot_delay_ms as u64,
@@ -34,6 +35,7 @@ fn named() {
         ],
     );
     print::line(
+        rt,
         b"settings expiry, backoff, hold, throttle",
         &[
             ESC_REQUEST_EXPIRY_MS as u64,
@@ -62,13 +64,14 @@ fn settings(
     }
 }
 
-fn check(config: EscIdleQualificationConfig) {
+fn check(rt: &impl Print, config: EscIdleQualificationConfig) {
     if config.is_valid() {
-        print::text(b"valid ");
+        print::text(rt, b"valid ");
     } else {
-        print::text(b"invalid ");
+        print::text(rt, b"invalid ");
     }
     print::line(
+        rt,
         b"settings",
         &[
             config.min_erpm_div100 as u64,

@@ -6,30 +6,30 @@ use esc_records::{RecordRead, read_record};
 use esc_unit::{StepReply, Unit};
 
 // The answer of a step is printed; a record that can't be read is no step.
-pub fn step(unit: Unit, bytes: &[u8]) {
+pub fn step(rt: &impl Print, unit: Unit, bytes: &[u8]) {
     let read = read_record(bytes);
     let RecordRead::Record(record) = read else {
         return;
     };
     let stepped = unit.step(record);
     let reply = stepped.reply;
-    show(reply);
+    show(rt, reply);
 }
 
-fn show(reply: StepReply) {
-    print::text(b"step: ");
+fn show(rt: &impl Print, reply: StepReply) {
+    print::text(rt, b"step: ");
     match reply {
-        StepReply::Answer(answer) => written(answer),
-        StepReply::Unopened => print::refused(8),
+        StepReply::Answer(answer) => written(rt, answer),
+        StepReply::Unopened => print::refused(rt, 8),
     }
-    print::text(b"\n");
+    print::text(rt, b"\n");
 }
 
-fn written(answer: Answer) {
+fn written(rt: &impl Print, answer: Answer) {
     let mut out = [0u8; LONGEST_ANSWER];
     let written = write_answer(answer, &mut out);
     match written {
-        Handed::Written(n) => print::front(&out, n),
-        Handed::Space => print::refused(9),
+        Handed::Written(n) => print::front(rt, &out, n),
+        Handed::Space => print::refused(rt, 9),
     }
 }

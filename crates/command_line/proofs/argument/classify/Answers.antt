@@ -1,6 +1,4 @@
 -- The tests in the order of the definition.
-use borrow.Author.Rules.{rules}
-use borrow.Author.Tests.{not-true, not-false}
 use mathlib.Core.Path.{sym, ◌∙◌}
 use Rattle.command_line.specs.Argument.{kind_of}
 use Rattle.command_line.proofs.argument.classify.Goals as goal
@@ -11,16 +9,8 @@ returns-then-is c = rw (sym c.is.ensures ∙ c.if-is.true)
 
 pub returns-then-not-options : goal.returns-then-not-options
 unfolding kind_of
-returns-then-not-options c = rw (
-  sym c.is.ensures ∙ c.if-is.false,
-  not-true c.args.options
-      c.if-not-options.true-raw,
-)
+returns-then-not-options c = rw (sym c.is.ensures ∙ c.if-is.false, c.if-not-options.true)
 
 pub returns : goal.returns
 unfolding kind_of
-returns c = rw (
-  sym c.is.ensures ∙ c.if-is.false,
-  not-false
-      c.args.options c.if-not-options.false-raw,
-) c.option_or_file.ensures
+returns c = rw (sym c.is.ensures ∙ c.if-is.false, c.if-not-options.false) c.option_or_file.ensures

@@ -1,5 +1,4 @@
 -- The tests in the order of the definition.
-use borrow.Author.Rules.{rules}
 use mathlib.Core.Path.{sym, ◌∙◌}
 use Rattle.command_line.specs.Argument.{option_or_file}
 use Rattle.command_line.proofs.argument.option_or_file.Goals as goal

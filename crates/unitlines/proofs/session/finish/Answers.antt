@@ -10,18 +10,18 @@ use Rattle.base.proofs.HandLaws.{told-within, told_text}
 use Rattle.unitlines.proofs.session.finish.Goals as goal
 
 pub slice_bounds-write_end-end : goal.slice_bounds-write_end-end
-slice_bounds-write_end-end c = let f = c.finish-end in
+slice_bounds-write_end-end g c = let f = c.finish-end in
     let text = printed_at_end (streamed c.args.stream) in
-    let told = sym (ap handed c.in-Written.is) ∙ f.ensures.0 in
-    omega (arith, told-within text c.args.out.now _ told, f.auto.1.0)
+    let told = sym (ap handed c.in-Written.is) ∙ f.ensures.result_value in
+    omega (arith, told-within text c.args.out.now _ told, f.auto.out)
 
 pub slice_bounds-write_end-end-2 : goal.slice_bounds-write_end-end-2
-slice_bounds-write_end-end-2 c = let f = c.finish-end in
+slice_bounds-write_end-end-2 g c = let f = c.finish-end in
     let start = c.before in
     let text = printed_at_end (streamed start.args.stream) in
-    let told = sym (ap handed c.in-Written.is) ∙ f.ensures.0 in
-    sym (length-take-le _ f.new.1.0 (omega (arith, told-within text start.args.out.now _ told, f.auto.1.0)))
+    let told = sym (ap handed c.in-Written.is) ∙ f.ensures.result_value in
+    sym (length-take-le _ f.new.out (omega (arith, told-within text start.args.out.now _ told, f.auto.out)))
 
 pub write_end-requires : goal.write_end-requires
-write_end-requires c = let f = c.finish-end in
-    told_text _ _ _ _ (sym (ap handed c.in-Written.is) ∙ f.ensures.0) f.ensures.1
+write_end-requires g c = let f = c.finish-end in
+    told_text _ _ _ _ (sym (ap handed c.in-Written.is) ∙ f.ensures.result_value) f.ensures.out_after

@@ -15,59 +15,65 @@ use Rattle.unitlines.proofs.session.pump.Goals as goal
 
 pub loop-used-init : goal.loop-used-init
 unfolding after
-loop-used-init c = (omega arith, refl, refl)
+loop-used-init g c = (omega arith, refl, refl)
 
 pub overflow_add-used : goal.overflow_add-used
-overflow_add-used c = let f = c.feed-fed in
+overflow_add-used g c = let f = c.feed-fed in
     let l = c.loop-used in
-    let fed = rw (part_left _ l.used) at f.ensures.0 in
+    let fed = rw (part_left _ l.used) at f.ensures.result_value in
     omega (arith, l.invariant.0, fed-within _ _ _ _ fed, length-drop l.used c.args.chunk.now, c.well_formed)
 
-pub slice_bounds-write_printed-end-in-loop-used : goal.slice_bounds-write_printed-end-in-loop-used
-slice_bounds-write_printed-end-in-loop-used c = let f = c.feed-fed in
+pub slice_bounds-write_printed-end : goal.slice_bounds-write_printed-end
+slice_bounds-write_printed-end g c = let f = c.feed-fed in
     let l = c.loop-used in
-    let fed = rw (part_left _ l.used) at f.ensures.0 in
-    omega (arith, fed-fits _ _ _ _ fed, f.auto.1.1.0)
+    let fed = rw (part_left _ l.used) at f.ensures.result_value in
+    omega (arith, l.invariant.0, fed-within _ _ _ _ fed, length-drop l.used c.args.chunk.now)
+
+pub slice_bounds-write_printed-end-in-loop-used : goal.slice_bounds-write_printed-end-in-loop-used
+slice_bounds-write_printed-end-in-loop-used g c = let f = c.feed-fed in
+    let l = c.loop-used in
+    let fed = rw (part_left _ l.used) at f.ensures.result_value in
+    omega (arith, fed-fits _ _ _ _ fed, f.auto.out)
 
 pub slice_bounds-write_printed-end-in-loop-used-2 : goal.slice_bounds-write_printed-end-in-loop-used-2
-slice_bounds-write_printed-end-in-loop-used-2 c = let f = c.feed-fed in
+slice_bounds-write_printed-end-in-loop-used-2 g c = let f = c.feed-fed in
     let l = c.loop-used in
-    let fed = rw (part_left _ l.used) at f.ensures.0 in
-    sym (length-take-le f.result.written f.new.1.1.0 (omega (arith, fed-fits _ _ _ _ fed, f.auto.1.1.0)))
+    let fed = rw (part_left _ l.used) at f.ensures.result_value in
+    sym (length-take-le f.result.written f.new.out (omega (arith, fed-fits _ _ _ _ fed, f.auto.out)))
 
 pub write_printed-requires : goal.write_printed-requires
-write_printed-requires c = let f = c.feed-fed in
+write_printed-requires g c = let f = c.feed-fed in
     let l = c.loop-used in
     let chunk = c.before.args.chunk.now in
-    let fed = rw (part_left _ l.used) at f.ensures.0 in
-    let text = rw (part_left _ l.used) at f.ensures.1 in
+    let fed = rw (part_left _ l.used) at f.ensures.result_value in
+    let text = rw (part_left _ l.used) at f.ensures.out_after in
     let n : f.result.used ≡ l.used + f.result.used - l.used = omega arith in
     fed-text _ _ _ _ fed _ _ refl text ∙ ap (λ (k : ℕ). printed (streamed l.stream) (take k (drop l.used chunk))) n
 
 pub returns-then-not-write_printed : goal.returns-then-not-write_printed
-returns-then-not-write_printed c = λ e. absurd (false≢true e)
+returns-then-not-write_printed g c = λ e. absurd (false≢true e)
 
 pub loop-used-smaller : goal.loop-used-smaller
-loop-used-smaller c = let f = c.feed-fed in
+loop-used-smaller g c = let f = c.feed-fed in
     let tested = c.loop-used-test in
     let l = c.loop-used in
     let start = c.before in
-    let fed = rw (part_left _ l.used) at f.ensures.0 in
+    let fed = rw (part_left _ l.used) at f.ensures.result_value in
     let n = length-drop l.used start.args.chunk.now in
     let some = fed-some _ _ _ _ fed (omega (arith, l.invariant.1, start.requires)) (omega (arith, n, tested.true)) in
     omega (arith, n, l.invariant.0, fed-within _ _ _ _ fed, some)
 
 pub loop-used-preserved : goal.loop-used-preserved
-loop-used-preserved c = let f = c.feed-fed in
+loop-used-preserved g c = let f = c.feed-fed in
     let l = c.loop-used in
     let start = c.before in
-    let fed = rw (part_left _ l.used) at f.ensures.0 in (
+    let fed = rw (part_left _ l.used) at f.ensures.result_value in (
       omega (arith, length-drop l.used start.args.chunk.now, l.invariant.0, fed-within _ _ _ _ fed),
-      f.auto.1.1.0 ∙ l.invariant.1,
+      f.auto.out ∙ l.invariant.1,
       fed-stream _ _ _ _ fed ∙ after_on _ _ _ l.used f.result.used l.invariant.2,
     )
 
 pub returns : goal.returns
-returns c = let l = c.loop-used in
+returns g c = let l = c.loop-used in
     let a = c.args in
     λ e. l.invariant.2 ∙ ap (after (streamed a.stream)) (take_all l.used a.chunk.now c.loop-used-test.false)

@@ -14,8 +14,8 @@ use Rattle.unit_text.proofs.StreamLaws.{after_on}
 use Rattle.unitlines.proofs.session.pump.Given as goal
 
 abbrev pub invariant-loop-used : goal.invariant-loop-used
-invariant-loop-used l = (l.used ≤ length l.chunk) × (length l.out ≡ length l.initial.out) × (streamed l.stream ≡ after (streamed l.initial.stream)
+invariant-loop-used g l = (l.used ≤ length l.chunk) × (length l.out ≡ length l.initial.out) × (streamed l.stream ≡ after (streamed l.initial.stream)
     (take l.used l.chunk))
 
 abbrev pub decreases-loop-used : goal.decreases-loop-used
-decreases-loop-used l = length l.chunk - l.used
+decreases-loop-used g l = length l.chunk - l.used
