@@ -8,6 +8,7 @@ use lib.ListN.{length, take}
 use Rattle.base.specs.Reply.{accepted}
 use Rattle.hex_lines.specs.Line.{line_end}
 use Rattle.base.specs.Handed.{handed_reply, handed_output}
+use Rattle.esc_unit.specs.declared.unit.Unit.{Unit}
 use Rattle.unit_text.specs.Stream.{Streamed, Taken, printed, printed_at_end, feed_of, fed_output, longest_line}
 use Rattle.base.proofs.PutLaws.{overwrite-none}
 use Rattle.unit_text.proofs.StreamLaws.{printed-end}
@@ -35,3 +36,14 @@ module _ (s : Streamed) where
       let one : t.used ≡ 1 =
       omega (arith, fed-within s (line_end ∷ []) (length text) t e, fed-some s (line_end ∷ []) (length text) t e (omega arith) (omega arith)) in
       fed-text s (line_end ∷ []) (length text) t e text text' refl o ∙ rw one (sym (end-some n))
+
+-- the same, as the search finds it
+pub none_said : (unit : Unit) (line : List ℕ) (n : ℕ) (out : List ℕ) → n ≡ 0
+    → handed_reply (printed_at_end (record { unit = unit; line = take n line })) (length out) ≡ accepted 0
+none_said unit line n out e = rw e (sym (finish-none (record { unit = unit; line = [] }) out refl).0)
+
+pub none_put : (unit : Unit) (line : List ℕ) (n : ℕ) (out : List ℕ) → n ≡ 0
+    → handed_output (printed_at_end (record { unit = unit; line = take n line })) out ≡ out
+none_put unit line n out e = rw e (sym (finish-none (record { unit = unit; line = [] }) out refl).1)
+
+pub ruleset none_begun = (none_said, none_put)

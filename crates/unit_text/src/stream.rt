@@ -183,6 +183,7 @@ impl Stream {
     }
 
     // Answers the line that the end of input ends, if there is one.
+    #[tactic(auto, using(crate::proofs::FinishLaws::none_begun))]
     pub fn finish(self, out: &mut [u8]) -> Handed
         ensures result_value { handed result ≡ handed_reply (printed_at_end (streamed self)) (length out.old) }
         ensures out_after { out.new ≡ handed_output (printed_at_end (streamed self)) out.old }

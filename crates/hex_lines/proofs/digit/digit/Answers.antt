@@ -1,5 +1,4 @@
 -- Each return has the value of its stretch of characters.
-use borrow.Author.Rules.{rules}
 use native.Mathlib.Omega.{arith}
 use mathlib.Core.Path.{sym}
 use Rattle.hex_lines.proofs.DigitLaws.{below-figures, figure, below-letters, letter, above-letters}

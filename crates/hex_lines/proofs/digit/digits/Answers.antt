@@ -1,12 +1,11 @@
 -- Every character passed has its value in the table.
 use borrow.Author.Rules.{rules}
 use native.Mathlib.Omega.{arith}
-use mathlib.Core.Path.{◌≡◌, ◌∙◌}
-use Prim.Native.Nat.{ℕ, ◌≤◌, ◌<◌, ◌-◌}
+use mathlib.Core.Path.{◌∙◌}
+use Prim.Native.Nat.{◌<◌}
 use borrow.Author.Count.{below_more}
-use lib.ListN.{length, get_or, length-set}
+use lib.ListN.{length, length-set}
 use lib.Seq.{get_or-set_same, get_or-set_other}
-use Rattle.hex_lines.specs.Digit.{digit_of}
 use Rattle.hex_lines.proofs.digit.digits.Goals as goal
 
 pub loop-character-init : goal.loop-character-init

@@ -1,5 +1,4 @@
 -- Each return has the digit of its values.
-use borrow.Author.Rules.{rules}
 use mathlib.Core.Path.{sym}
 use Rattle.hex_lines.proofs.DigitLaws.{glyph-figure, glyph-letter}
 use Rattle.hex_lines.proofs.digit.glyph.Goals as goal

@@ -1,10 +1,7 @@
 -- What is written so far is the characters of the bytes passed.
-use borrow.Author.Rules.{rules}
 use native.Mathlib.Omega.{arith}
-use mathlib.Core.Path.{◌≡◌, refl, sym}
-use Prim.Native.Nat.{◌+◌, ◌*◌, ◌≤◌, ◌-◌}
-use lib.ListN.{length, take, length-set}
-use Rattle.base.specs.BigEndian.{overwrite}
+use mathlib.Core.Path.{refl, sym}
+use lib.ListN.{length-set}
 use Rattle.hex_lines.specs.Line.{hex_of}
 use Rattle.hex_lines.proofs.PrintLaws.{printed-length, print-more, print-end}
 use Rattle.base.proofs.PutLaws.{overwrite-none}
@@ -13,9 +10,6 @@ use Rattle.hex_lines.proofs.line.print_line.Goals as goal
 pub loop-i-init : goal.loop-i-init
 unfolding hex_of
 loop-i-init c = let a = c.args in (omega arith, omega arith, refl, sym (overwrite-none a.at a.out.now))
-
-pub glyph-requires : goal.glyph-requires
-glyph-requires c = omega (arith, c.shared_slice_known-in-loop-i-1.given c.loop-i.i)
 
 pub bounds-out-next-in-loop-i : goal.bounds-out-next-in-loop-i
 bounds-out-next-in-loop-i c = simp length-set (omega arith)
@@ -32,7 +26,4 @@ loop-i-preserved c = let a = c.args in
 
 pub returns : goal.returns
 returns c = let a = c.args in
-    let l = c.loop-i in (
-      omega (arith, printed-length a.bytes.now),
-      print-end a.bytes.now l.i a.out.now l.out a.at l.next (omega arith) (omega arith) (omega arith) l.invariant.2 l.invariant.3,
-    )
+    let l = c.loop-i in record { value = omega (arith, printed-length a.bytes.now); out_after = print-end a.bytes.now l.i a.out.now l.out a.at l.next (omega arith) (omega arith) (omega arith) l.invariant.2 l.invariant.3 }

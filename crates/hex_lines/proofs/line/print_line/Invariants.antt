@@ -1,13 +1,9 @@
 -- What is written so far is the characters of the bytes passed.
-use borrow.Author.Rules.{rules}
-use native.Mathlib.Omega.{arith}
-use mathlib.Core.Path.{◌≡◌, refl, sym}
+use mathlib.Core.Path.{◌≡◌}
 use Prim.Native.Nat.{◌+◌, ◌*◌, ◌≤◌, ◌-◌}
-use lib.ListN.{length, take, length-set}
+use lib.ListN.{length, take}
 use Rattle.base.specs.BigEndian.{overwrite}
 use Rattle.hex_lines.specs.Line.{hex_of}
-use Rattle.hex_lines.proofs.PrintLaws.{printed-length, print-more, print-end}
-use Rattle.base.proofs.PutLaws.{overwrite-none}
 use Rattle.hex_lines.proofs.line.print_line.Given as goal
 
 abbrev pub invariant-loop-i : goal.invariant-loop-i

@@ -2,10 +2,8 @@
 use borrow.Author.Rules.{rules}
 use native.Mathlib.Omega.{arith}
 use mathlib.Core.Path.{sym}
-use Prim.Native.Nat.{◌-◌}
-use lib.ListN.{length}
 use Rattle.hex_lines.proofs.LineLaws.{read_wide}
-use Rattle.hex_lines.proofs.LineLeft.{Left, left-all, left-first, left-two, left-more, left-half, left-none}
+use Rattle.hex_lines.proofs.LineLeft.{left-all, left-first, left-two, left-more, left-half, left-none}
 use Rattle.hex_lines.proofs.line.read_line.Goals as goal
 
 pub returns-then-count-gt-WIDEST : goal.returns-then-count-gt-WIDEST

@@ -1,11 +1,7 @@
 -- What is left of the line, behind the bytes put so far, says what the whole line does.
-use borrow.Author.Rules.{rules}
-use native.Mathlib.Omega.{arith}
-use mathlib.Core.Path.{sym}
 use Prim.Native.Nat.{◌-◌}
 use lib.ListN.{length}
-use Rattle.hex_lines.proofs.LineLaws.{read_wide}
-use Rattle.hex_lines.proofs.LineLeft.{Left, left-all, left-first, left-two, left-more, left-half, left-none}
+use Rattle.hex_lines.proofs.LineLeft.{Left}
 use Rattle.hex_lines.proofs.line.read_line.Given as goal
 
 abbrev pub invariant-loop-place : goal.invariant-loop-place

@@ -1,9 +1,6 @@
 -- What was passed has no LF, and is held behind what was held before.
-use borrow.Author.Rules.{rules}
 use native.Mathlib.Omega.{arith}
-use Prim.Native.Nat.{◌-◌}
-use lib.ListN.{length, take}
-use Rattle.hex_lines.proofs.FirstLine.{Holding, holding-none, holding-more, holding-ended, holding-open}
+use Rattle.hex_lines.proofs.FirstLine.{holding-none, holding-more, holding-ended, holding-open}
 use Rattle.hex_lines.proofs.next_line.hold.Goals as goal
 
 pub loop-passed-init : goal.loop-passed-init

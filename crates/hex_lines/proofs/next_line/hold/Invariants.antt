@@ -1,9 +1,7 @@
 -- What was passed has no LF, and is held behind what was held before.
-use borrow.Author.Rules.{rules}
-use native.Mathlib.Omega.{arith}
 use Prim.Native.Nat.{◌-◌}
 use lib.ListN.{length, take}
-use Rattle.hex_lines.proofs.FirstLine.{Holding, holding-none, holding-more, holding-ended, holding-open}
+use Rattle.hex_lines.proofs.FirstLine.{Holding}
 use Rattle.hex_lines.proofs.next_line.hold.Given as goal
 
 abbrev pub invariant-loop-passed : goal.invariant-loop-passed

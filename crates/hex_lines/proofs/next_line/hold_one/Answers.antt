@@ -1,5 +1,4 @@
 -- The character is stored where there is room for it.
-use borrow.Author.Rules.{rules}
 use Rattle.hex_lines.proofs.HoldLaws.{holds-stored, holds-full}
 use Rattle.hex_lines.proofs.next_line.hold_one.Goals as goal
 

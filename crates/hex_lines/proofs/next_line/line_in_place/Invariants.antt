@@ -1,8 +1,6 @@
 -- What was read is digits two by two; LF behind it ends the line.
-use native.Mathlib.Omega.{arith}
 use Prim.Native.Nat.{◌-◌}
-use Rattle.hex_lines.proofs.LineInPlace.{Reading, reading-none, reading-more, reading-ended}
-use borrow.Author.Rules.{rules}
+use Rattle.hex_lines.proofs.LineInPlace.{Reading}
 use Rattle.hex_lines.specs.Line.{longest_record}
 use Rattle.hex_lines.proofs.next_line.line_in_place.Given as goal
 

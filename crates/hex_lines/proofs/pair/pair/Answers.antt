@@ -1,5 +1,4 @@
 -- Both characters are digits, or one of them is none.
-use borrow.Author.Rules.{rules}
 use native.Mathlib.Omega.{arith}
 use mathlib.Core.Path.{sym, ◌∙◌}
 use Rattle.hex_lines.proofs.PairsLaws.{pair-both, pair-none}

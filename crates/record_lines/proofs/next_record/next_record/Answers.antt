@@ -6,7 +6,6 @@ use Rattle.esc_records.specs.Record.{record_read}
 use Rattle.hex_lines.specs.NextLine.{NextFrom}
 use Rattle.record_lines.specs.NextRecord.{admitted_by}
 use Rattle.hex_lines.specs.declared.next_line.NextLine.TheVariants.{Ended}
-use borrow.Author.Rules.{rules}
 use Rattle.record_lines.proofs.next_record.next_record.Goals.{In-Ended}
 use Rattle.record_lines.proofs.next_record.next_record.Goals as goal
 
@@ -14,23 +13,23 @@ use Rattle.record_lines.proofs.next_record.next_record.Goals as goal
 ended : (c : In-Ended)
     → NextFrom (take c.args.held c.args.line.now) c.args.chunk.now
     (Ended c.in-Ended.read c.in-Ended.next)
-    c.next_line-found.new.1.1.0
-    c.next_line-found.new.1.1.1.1.0
+    c.next_line-found.new.buffer
+    c.next_line-found.new.bytes
 ended c = rw c.in-Ended.is at c.next_line-found.ensures
 
 pub admit_line-admission-requires : goal.admit_line-admission-requires
 admit_line-admission-requires c = omega (
   arith,
-  (ended ((goal.at.admit_line-admission-requires c).In-Ended-2)).3,
-  c.next_line-found.auto.1.1.1.1.0,
-  c.before.requires.1,
+  (ended ((goal.at.admit_line-admission-requires c).In-Ended)).3,
+  c.next_line-found.auto.bytes,
+  c.requires.1,
 )
 
 pub returns-in-Open : goal.returns-in-Open
 returns-in-Open c = rw c.in-Open.is at c.next_line-found.ensures
 
 pub returns-in-Refused : goal.returns-in-Refused
-returns-in-Refused c = let e = ended ((goal.at.returns-in-Refused c).In-Ended-2) in
+returns-in-Refused c = let e = ended ((goal.at.returns-in-Refused c).In-Ended) in
     let a = c.admit_line-admission.ensures in
     record {
       ends = e.0;
@@ -40,7 +39,7 @@ returns-in-Refused c = let e = ended ((goal.at.returns-in-Refused c).In-Ended-2)
     }
 
 pub returns-in-Record : goal.returns-in-Record
-returns-in-Record c = let e = ended ((goal.at.returns-in-Record c).In-Ended-2) in
+returns-in-Record c = let e = ended ((goal.at.returns-in-Record c).In-Ended) in
     let a = c.admit_line-admission.ensures in
     record {
       ends = e.0;

@@ -1,16 +1,14 @@
 -- The time is the number of the bytes that its digits spell; the other characters are tested one by one.
-use borrow.Author.Rules.{rules}
 use native.Mathlib.Omega.{arith}
-use Prim.Native.Nat.{◌-◌}
 use Rattle.base.proofs.NumberLaws.{seven-fit}
-use Rattle.record_lines.proofs.WireRead.{Timed, timed-none, timed-more, timed-all}
+use Rattle.record_lines.proofs.WireRead.{timed-none, timed-more, timed-all}
 use Rattle.record_lines.proofs.wire_line.wire_line.Goals as goal
 
 pub loop-read-init : goal.loop-read-init
 loop-read-init c = let byte = c.pair-byte in
     let chunk = c.args.chunk.now in
     let long = c.if-chunk-le-WIRE_LINE.false in
-    timed-none chunk long c.if-chunk-ne48.false c.if-chunk-ne53.false byte.result
+    timed-none chunk long (omega arith) (omega arith) byte.result
     byte.ensures c.if-byte-ge-NO_BYTE.false
 
 pub overflow_mul-at_ms : goal.overflow_mul-at_ms
@@ -32,6 +30,4 @@ returns c = let l = c.loop-read in
     let byte = c.pair-byte in
     let long = c.if-chunk-le-WIRE_LINE.false in
     let lf = c.if-chunk-ne-LINE_END.false in
-    let zero-digit = c.if-chunk-ne48.false in
-    let five = c.if-chunk-ne53.false in
-    timed-all _ long l.invariant (omega (arith, l.invariant.within)) lf zero-digit five byte.result byte.ensures c.if-byte-ge-NO_BYTE.false
+    timed-all _ long l.invariant (omega (arith, l.invariant.within)) lf (omega arith) (omega arith) byte.result byte.ensures c.if-byte-ge-NO_BYTE.false

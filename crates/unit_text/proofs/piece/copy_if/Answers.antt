@@ -1,5 +1,4 @@
 -- It is copied or not; it fits.
-use borrow.Author.Rules.{rules}
 use native.Mathlib.Omega.{arith}
 use mathlib.Core.Path.{◌∙◌}
 use lib.Seq.{length-take-le}

@@ -2,13 +2,11 @@
 use borrow.Author.Rules.{rules}
 use native.Mathlib.Omega.{arith}
 use mathlib.Core.Path.{sym, ap, ◌∙◌}
-use Prim.Native.Nat.{◌-◌}
-use lib.ListN.{length}
 use Rattle.unit_text.specs.Streams.{streamed}
 use Rattle.base.specs.Handed.{handed}
 use Rattle.unit_text.proofs.StreamLaws.{end-length}
 use Rattle.unit_text.proofs.Feeding.{part_left}
-use Rattle.unit_text.proofs.Passing.{Passing, passing-none, passing-within, passing-some, piece-fits}
+use Rattle.unit_text.proofs.Passing.{passing-none, passing-within, passing-some, piece-fits}
 use Rattle.unit_text.proofs.Passing.{passing-short, passing-more, end-count, end-written, passing-end-short, passing-end}
 use Rattle.unit_text.proofs.whole_session.pass.Goals as goal
 
@@ -18,21 +16,22 @@ loop-used-init c = passing-none _ _ _ _ _ (search rules) c.new-stream.ensures
 pub returns-then-out-written : goal.returns-then-out-written
 returns-then-out-written c = let l = c.loop-used in
     let f = c.feed-fed in
-    let fed = rw (part_left _ l.used, l.invariant.room) at f.ensures.0 in
-    let text = rw (part_left _ l.used) at f.ensures.1 in
-    passing-short l.invariant c.requires _ f.new.1.1.0 fed text
-    (omega (arith, l.invariant.long))
+    let fed = rw (part_left _ l.used, l.invariant.room) at f.ensures.result_value in
+    let text = rw (part_left _ l.used) at f.ensures.out_after in
+    let back = passing-short l.invariant c.requires _ f.new.out fed text
+    (omega (arith, l.invariant.long)) in
+    record { result_value = back.0; out_after = back.1 }
 
 pub copy_if-requires : goal.copy_if-requires
 copy_if-requires c = let l = c.loop-used in
     let f = c.feed-fed in
-    let fed = rw (part_left _ l.used, l.invariant.room) at f.ensures.0 in
-    let text = rw (part_left _ l.used) at f.ensures.1 in (
+    let fed = rw (part_left _ l.used, l.invariant.room) at f.ensures.result_value in
+    let text = rw (part_left _ l.used) at f.ensures.out_after in (
       omega (
         arith,
         piece-fits l.invariant c.requires _
-            f.new.1.1.0 fed text,
-        f.auto.1.1.0,
+            f.new.out fed text,
+        f.auto.out,
         l.invariant.room,
       ),
       omega (arith, l.invariant.long, l.invariant.fits, c.if-out-written.false),
@@ -41,20 +40,20 @@ copy_if-requires c = let l = c.loop-used in
 pub overflow_add-used : goal.overflow_add-used
 overflow_add-used c = let l = c.loop-used in
     let f = c.feed-fed in
-    let fed = rw (part_left _ l.used, l.invariant.room) at f.ensures.0 in
-    let text = rw (part_left _ l.used) at f.ensures.1 in
+    let fed = rw (part_left _ l.used, l.invariant.room) at f.ensures.result_value in
+    let text = rw (part_left _ l.used) at f.ensures.out_after in
     omega (
       arith,
       passing-within l.invariant
-          c.requires _ f.new.1.1.0 fed text,
+          c.requires _ f.new.out fed text,
       c.well_formed,
     )
 
 pub overflow_add-written : goal.overflow_add-written
 overflow_add-written c = let l = c.loop-used in
     let f = c.feed-fed in
-    let fed = rw (part_left _ l.used, l.invariant.room) at f.ensures.0 in
-    let text = rw (part_left _ l.used) at f.ensures.1 in
+    let fed = rw (part_left _ l.used, l.invariant.room) at f.ensures.result_value in
+    let text = rw (part_left _ l.used) at f.ensures.out_after in
     omega (
       arith,
       l.invariant.long,
@@ -66,55 +65,56 @@ overflow_add-written c = let l = c.loop-used in
 pub loop-used-smaller : goal.loop-used-smaller
 loop-used-smaller c = let l = c.loop-used in
     let f = c.feed-fed in
-    let fed = rw (part_left _ l.used, l.invariant.room) at f.ensures.0 in
-    let text = rw (part_left _ l.used) at f.ensures.1 in
+    let fed = rw (part_left _ l.used, l.invariant.room) at f.ensures.result_value in
+    let text = rw (part_left _ l.used) at f.ensures.out_after in
     omega (
       arith,
       passing-within l.invariant
-          c.requires _ f.new.1.1.0 fed text,
+          c.requires _ f.new.out fed text,
       passing-some l.invariant
-          c.requires _ f.new.1.1.0 fed text
+          c.requires _ f.new.out fed text
           (omega (arith, c.loop-used-test.true)),
     )
 
 pub loop-used-preserved : goal.loop-used-preserved
 loop-used-preserved c = let l = c.loop-used in
     let f = c.feed-fed in
-    let fed = rw (part_left _ l.used, l.invariant.room) at f.ensures.0 in
-    let text = rw (part_left _ l.used) at f.ensures.1 in
+    let fed = rw (part_left _ l.used, l.invariant.room) at f.ensures.result_value in
+    let text = rw (part_left _ l.used) at f.ensures.out_after in
     let k = c.copy_if in
     passing-more l.invariant
-    c.requires _ f.new.1.1.0 fed text _ f.auto.1.1.0 k.auto.1.1.1.0
+    c.requires _ f.new.out fed text _ f.auto.out k.auto.out
     (omega (arith, l.invariant.long, c.if-out-written.false)) k.ensures
 
 pub returns-in_default : goal.returns-in_default
 returns-in_default c = let l = c.loop-used in
     let f = c.finish-end in
-    let told = sym (ap handed c.in_default.is) ∙ f.ensures.0 in
+    let told = sym (ap handed c.in_default.is) ∙ f.ensures.result_value in
     absurd (end-written l.invariant c.requires
     (omega (arith, c.loop-used-test.false)) told)
 
 pub returns-then-out-written-2 : goal.returns-then-out-written-2
 returns-then-out-written-2 c = let l = c.loop-used in
     let f = c.finish-end in
-    let told = sym (ap handed c.in-Written.is) ∙ f.ensures.0 in
-    passing-end-short l.invariant c.requires
+    let told = sym (ap handed c.in-Written.is) ∙ f.ensures.result_value in
+    let back = passing-end-short l.invariant c.requires
     (omega (arith, c.loop-used-test.false)) _
     (end-count l.invariant c.requires
     (omega (arith, c.loop-used-test.false)) _ told)
-    (omega (arith, l.invariant.long, c.if-out-written-2.true))
+    (omega (arith, l.invariant.long, c.if-out-written-2.true)) in
+    record { result_value = back.0; out_after = back.1 }
 
 pub copy_if-requires-2 : goal.copy_if-requires-2
 copy_if-requires-2 c = let l = c.loop-used in
     let f = c.finish-end in
-    let told = sym (ap handed c.in-Written.is) ∙ f.ensures.0 in (
+    let told = sym (ap handed c.in-Written.is) ∙ f.ensures.result_value in (
       omega (
         arith,
         end-count l.invariant
             c.requires
             (omega (arith, c.loop-used-test.false)) _ told,
         end-length (streamed l.stream),
-        f.auto.1.0,
+        f.auto.out,
         l.invariant.room,
       ),
       omega (arith, l.invariant.long, l.invariant.fits, c.if-out-written-2.false),
@@ -133,12 +133,13 @@ overflow_add-result c = let l = c.loop-used in
 pub returns : goal.returns
 returns c = let l = c.loop-used in
     let f = c.finish-end in
-    let told = sym (ap handed c.in-Written.is) ∙ f.ensures.0 in
+    let told = sym (ap handed c.in-Written.is) ∙ f.ensures.result_value in
     let k = c.copy_if-2 in
-    passing-end l.invariant
+    let back = passing-end l.invariant
     c.requires
     (omega (arith, c.loop-used-test.false)) _ _ _
     (end-count l.invariant
     c.requires
     (omega (arith, c.loop-used-test.false)) _ told)
-    (omega (arith, l.invariant.long, c.if-out-written-2.false)) f.ensures.1 k.ensures
+    (omega (arith, l.invariant.long, c.if-out-written-2.false)) f.ensures.out_after k.ensures in
+    record { result_value = back.0; out_after = back.1 }

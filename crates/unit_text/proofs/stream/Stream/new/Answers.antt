@@ -1,5 +1,4 @@
 -- A unit as its own `new` says, and nothing held.
-use borrow.Author.Rules.{rules}
 use Rattle.unit_text.proofs.stream.Stream.new.Goals as goal
 
 pub returns : goal.returns
