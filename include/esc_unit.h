@@ -1,4 +1,4 @@
-/* The ESC telemetry unit's calls for C: link libc_calls.a, which `rt staticlib c_calls` writes.
+/* The ESC telemetry unit's calls for C: link libc_calls.a, which `tools/build c_calls` writes.
  *
  * A slice is a pointer and a length, counted in elements. No pointer is null, also where the length is 0, and what a
  * call writes to overlaps nothing else that it is lent. Beyond that nothing is asked of the caller: a call that

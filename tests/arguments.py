@@ -4,7 +4,7 @@
 The answers expected are those of the documents' sessions, of the session that rt replays, and of a unit never opened. In the
 folder that the program is run in there are a few files more, and names that look like options.
 
-    python3 tests/arguments.py target/bin/unitlines
+    python3 tests/arguments.py crates/unitlines/out/unitlines
 """
 import re
 import resource
@@ -21,14 +21,14 @@ ARMS, ARMS_ANSWERS = ROOT / "docs/four-arms.txt", (ROOT / "docs/four-arms-answer
 STORED, STORED_ANSWERS = ROOT / "crates/unitlines/stdin", (ROOT / "crates/unitlines/stdout").read_bytes()
 # a 06 with no LF behind it, and how a unit never opened refuses it
 CUT, REFUSED = b"06", b"08\n"
-FILES = {"cut": CUT, "empty": b"", "--help": CUT, "--": CUT, "-x": CUT}
+FILES = {"cut": CUT, "empty": b"", "--help": CUT, "--": CUT, "-x": CUT, "\udcff": CUT}
 # the most characters of a path, and of an argument that is looked at
 PATH, HELD = 4095, 4096
 STDIN = ARMS.read_bytes()
 
 
 def said(*messages):
-    return "".join(f"unitlines: {message}\n" for message in messages).encode()
+    return "".join(f"unitlines: {message}\n" for message in messages).encode(errors="surrogateescape")
 
 
 def path_of(length):
@@ -64,6 +64,8 @@ def cases():
     yield [SESSION, ".", "cut"], ANSWERS + REFUSED, said(".: could not be read")
     yield ["", "cut/cut", "cut"], REFUSED, said(": could not be opened", "cut/cut: could not be opened")
     yield ["--", "--version"], b"", said("--version: could not be opened")
+    # a name that is not UTF-8, the byte ff: the file is there
+    yield ["\udcff", "cut"], REFUSED, said("\udcff: could not be opened")
     # the longest path, one more, and one of which the rest is not looked at
     yield [path_of(PATH)], ANSWERS, b""
     yield [path_of(PATH + 1), "cut"], REFUSED, said(path_of(PATH + 1) + ": could not be opened")

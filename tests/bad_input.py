@@ -4,7 +4,7 @@
 What must be printed is written out here from the specification: its table of numbers, its table of
 kinds, and the answers of a unit that was just opened with every setting 0.
 
-    python3 tests/bad_input.py target/bin/unitlines
+    python3 tests/bad_input.py crates/unitlines/out/unitlines
 """
 import subprocess
 import sys

@@ -6,7 +6,10 @@ In docs/BOOKING.md, docs/CLAIMS.md and docs/GLOSSARY.md a name stands in back qu
 list of an .antt file, a function or type of an .rt file. A name with no file must be declared in a file that the document names. A
 path is one from the root or from crates/. Anything else in back quotes is a fault, but for the few words below.
 
-In every document, links and paths in back quotes lead to something.
+In the other documents for readers of the sources a name in back quotes that only a source could have, with an underscore, a dash
+or a capital inside it, stands in one.
+
+In every document, links and paths in back quotes lead to something; of what a build makes, in out/ or target/, the folder before.
 """
 import re
 import sys
@@ -15,8 +18,13 @@ from pathlib import Path
 ROOT = Path(__file__).resolve().parent.parent
 STRICT = ["docs/BOOKING.md", "docs/CLAIMS.md", "docs/GLOSSARY.md"]
 WORDS = {"ensures", "requires", ".edit", "N passed, 0 failed"}
-# what is made by a build, or is a path in another place
-ELSEWHERE = ("target/", "/")
+NAMED = ["README.md", "docs/DECISIONS.md", "docs/PROVING.md", "docs/RECORDS.md", "docs/OPERATIONS.md", "docs/PERFORMANCE.md"]
+SOURCES = ["crates/*/src", "crates/*/specs", "crates/*/proofs", "crates/*/must-fail", "oracle", "bench", "examples", "include", "tools", "tests"]
+NAME = re.compile(r"[A-Za-z][\w'-]*(?:::[A-Za-z]\w*)?")
+# a name that only a source could have; the toolchain's own is of none
+INNER = re.compile(r"(?!rattle-kit-).*(?:[_-]|::|[a-z][A-Z])")
+# what a build makes
+MADE = re.compile(r"(?:^|(?<=/))(?:out|target)(?:/.*)?$")
 SPAN = re.compile(r"`([^`\n]+)`")
 LINK = re.compile(r"\]\(([^)#]*)#?([^)]*)\)")
 PATH = re.compile(r"[\w.*-]*(?:/[\w.*-]*)+")
@@ -82,6 +90,25 @@ def strict(document):
         yield f"only {cited} names and paths were found: has the format changed?"
 
 
+def words():
+    """Every word of the sources, what their files and folders are called, and what is declared in a file with a type's name."""
+    found = set()
+    for source in SOURCES:
+        for path in (path for folder in ROOT.glob(source) for path in folder.rglob("*")):
+            found |= {path.name, path.stem}
+            if path.suffix in {".antt", ".rt", ".edit", ".rs", ".py", ".c", ".h", ""} and path.is_file():
+                text = path.read_text()
+                found |= {*re.findall(r"[\w'-]+", text), *re.findall(r"\w+", text)}
+                owners = re.findall(r"^impl(?:<.*?>)? (\w+)", text, re.M)
+                found |= {f"{owner}::{item}" for owner in owners for item in re.findall(r"\b(?:fn|const) (\w+)", text)}
+    return found
+
+
+def named(document, known):
+    names = {span for span in SPAN.findall(prose(document.read_text())) if NAME.fullmatch(span) and INNER.match(span)}
+    yield from (f"{name} stands in no source" for name in names if name not in known)
+
+
 def anchors(document):
     """What a link may have behind its #: a heading in small letters, without its marks, a hyphen for each space."""
     headings = re.findall(r"^#+ (.*)$", document.read_text(), re.M)
@@ -97,7 +124,8 @@ def leads(document):
         if not target.exists() or (anchor and anchor not in anchors(target)):
             yield f"the link {path}#{anchor} leads nowhere"
     for span in SPAN.findall(prose(text)):
-        if PATH.fullmatch(span) and not span.startswith(ELSEWHERE) and not places(span, document):
+        kept = MADE.sub("", span)
+        if PATH.fullmatch(span) and kept and not kept.startswith("/") and not places(kept, document):
             yield f"{span} does not exist"
 
 
@@ -105,6 +133,8 @@ def main():
     documents = sorted([*ROOT.glob("*.md"), *ROOT.glob("docs/*.md"), *ROOT.glob("oracle/*.md")])
     faults = [f"{document.relative_to(ROOT)}: {fault}" for document in documents for fault in leads(document)]
     faults += [f"{name}: {fault}" for name in STRICT for fault in strict(ROOT / name)]
+    known = words()
+    faults += [f"{name}: {fault}" for name in NAMED for fault in named(ROOT / name, known)]
     for fault in sorted(set(faults)):
         print(fault)
     sys.exit(1 if faults else 0)

@@ -2,58 +2,98 @@
 """What the prover does not ask of the text.
 
 Every public function has a comment that says what it is for. In a library it asks nothing by a `requires`, and
-states its result by an equation and what each lent buffer holds afterwards by another; only the capture search's
-choice is free. A crate that is a part of others is theirs alone: no further crate's code names it, and its functions
-may ask what each call of them proves. Every file of specs/ and proofs/ opens with a comment that says what it is or why
-it is true, and has no line of more than 160 characters. What specs/ define, they define once: one word, one meaning.
+states its result by an equation, `result ≡ ..` or of what `result` stands for, and what each lent buffer holds afterwards by
+another, `buffer.new ≡ ..`; only the capture search's choice is free. A crate that is a part of others is theirs alone: no
+further crate's code names it, and its functions may ask what each call of them proves. Every file of specs/ and proofs/ opens
+with a comment that says what it is or why it is true, and has no line of more than 160 characters, imports excepted, which the
+layout keeps on one line or puts a name to a line. What specs/ define, they define once: one word, one meaning.
 """
 import re
 import sys
 from pathlib import Path
 
 CRATES = Path(__file__).resolve().parent.parent / "crates"
-CLAUSE = re.compile(r"^\s*ensures(?: \w+)? \{ λ (\w+)\. (.*) \}$", re.M)
+FUNCTION = re.compile(r'^ *pub (?:const |unsafe |extern "C" )*fn (\w+)', re.M)
+# where a clause begins, or else the body; no type of a parameter has a brace
+BRACE = re.compile(r"(?:^\s*(requires|ensures)\b[*]?\s*\w*\s*)?\{", re.M)
 DEFINED = re.compile(r"^(?:unfoldable |abbrev )?pub (?:record |data )?(?!use |mod )([^\s:({]+)", re.M)
 WIDEST = 160
+IMPORT = re.compile(r"(?:unfoldable |pub )*use ")
 # what a definition of specs/ says of the result where no equation could
 FREE = {"find_frame": "Searched", "esc_find_frame": "Searched"}
 # crates that are a part of others
 PARTS = {"hex_lines": ["record_lines", "unit_text"], "record_lines": ["unit_text"]}
 
 
+def closed(text, at):
+    """The place behind the brace that closes the one before this place."""
+    depth = 1
+    while depth:
+        depth += {"{": 1, "}": -1}.get(text[at], 0)
+        at += 1
+    return at
+
+
 def functions(path):
+    """Each public function: its name, its parameters and result, its clauses, and whether a comment stands above it."""
     text = path.read_text()
-    for found in re.finditer(r"^ *pub (?:extern \"C\" )?fn (\w+)(.*?)\{$", text, re.M | re.S):
+    for found in FUNCTION.finditer(text):
         above = [line.strip() for line in text[: found.start()].split("\n")[:-1] if not line.strip().startswith("#[")]
-        yield found[1], found[2], bool(above) and above[-1].startswith("//")
+        start = BRACE.search(text, found.end())
+        signature, clauses = text[found.end() : start.start()], []
+        while start[1]:
+            end = closed(text, start.end())
+            clauses.append((start[1], text[start.end() : end - 1]))
+            start = BRACE.search(text, end)
+        yield found[1], signature, clauses, bool(above) and above[-1].startswith("//")
 
 
-def stated(name, clauses):
-    """Whether a clause says what the result is."""
-    for binder, fact in clauses:
-        if re.search(rf"(?<!\w){binder}(?!\w)", fact) and ("≡" in fact or FREE.get(name, "\0") in fact):
-            return True
-    return False
+def facts(clause):
+    """The facts that a clause joins by ×."""
+    parts, depth, start = [], 0, 0
+    for at, letter in enumerate(clause):
+        depth += {"(": 1, ")": -1}.get(letter, 0)
+        if letter == "×" and not depth:
+            parts.append(clause[start:at])
+            start = at + 1
+    parts = [part.strip() for part in [*parts, clause[start:]]]
+    if len(parts) == 1:
+        inner = parts[0][1:-1]
+        return facts(inner) if parts[0] == f"({inner})" and balanced(inner) else parts
+    return [fact for part in parts for fact in facts(part)]
+
+
+def balanced(text):
+    """Whether each bracket closes one that was opened in this text."""
+    depth = 0
+    for letter in text:
+        depth += {"(": 1, ")": -1}.get(letter, 0)
+        if depth < 0:
+            return False
+    return depth == 0
+
+
+def states(name, fact):
+    """Whether a fact says what the result is: by an equation on it, or by the word for a choice that is free."""
+    of_result = re.match(r"([^≡]*(?<![\w.])result(?![\w'])[^≡]*)(≡?)", fact)
+    return bool(of_result) and (of_result[2] == "≡" or fact.startswith(FREE.get(name, "\0") + " "))
 
 
 def contracts(path):
-    for name, head, _ in functions(path):
-        if re.search(r"^\s*requires\b", head, re.M):
+    for name, signature, clauses, _ in functions(path):
+        if any(kind == "requires" for kind, _ in clauses):
             yield f"{path}: pub fn {name} has a `requires`"
-        clauses = CLAUSE.findall(head)
-        if len(clauses) != len(re.findall(r"^\s*ensures\b", head, re.M)):
-            yield f"{path}: pub fn {name} has an `ensures` that can't be read here"
-        signature = re.split(r"^\s*(?:requires|ensures)\b", head, maxsplit=1, flags=re.M)[0]
-        if "->" in signature and not stated(name, clauses):
+        ensured = [fact for kind, clause in clauses if kind == "ensures" for fact in facts(clause)]
+        if "->" in signature and not any(states(name, fact) for fact in ensured):
             yield f"{path}: pub fn {name} does not state its result by an equation"
-        for lent in re.findall(r"(\w+): &(?:'\w+ )?mut |&mut (self)", signature):
+        for lent in re.findall(r"(\w+): &(?:'\w+ )?mut |&(?:'\w+ )?mut (self)", signature):
             buffer = lent[0] or lent[1]
-            if not any(f"now ({buffer} .exit) ≡" in fact for _, fact in clauses):
+            if not any(fact.startswith(f"{buffer}.new ≡ ") for fact in ensured):
                 yield f"{path}: pub fn {name} does not state by an equation what {buffer} holds afterwards"
 
 
 def purposes(path):
-    for name, _, commented in functions(path):
+    for name, *_, commented in functions(path):
         if not commented:
             yield f"{path}: pub fn {name} has no comment"
 
@@ -70,7 +110,7 @@ def layout(path):
     text = path.read_text()
     if not text.startswith("-- "):
         yield f"{path}: no comment at its top"
-    if max(map(len, text.split("\n"))) > WIDEST:
+    if any(len(line) > WIDEST for line in text.split("\n") if not IMPORT.match(line)):
         yield f"{path}: a line of more than {WIDEST} characters"
 
 
@@ -89,7 +129,7 @@ def main():
     libraries = [crate for crate in CRATES.iterdir() if crate.name not in PARTS and not (crate / "src/main.rt").exists()]
     faults = [fault for crate in libraries for path in crate.glob("src/**/*.rt") for fault in contracts(path)]
     faults += [fault for path in CRATES.glob("*/src/**/*.rt") for fault in [*purposes(path), *strangers(path)]]
-    faults += [fault for path in CRATES.glob("*/*/**/*.antt") for fault in layout(path)]
+    faults += [fault for part in ("specs", "proofs") for path in CRATES.glob(f"*/{part}/**/*.antt") for fault in layout(path)]
     faults += meanings(CRATES.glob("*/specs/**/*.antt"))
     for fault in sorted(faults):
         print(fault)

@@ -2,7 +2,7 @@
 """Every name that a file of a crate imports is used in it.
 
 In .antt files and in the clauses of .rt files a name is a run of characters up to a space or one of ( ) { } . ; , @ " « »; an
-operator such as _+_ is used where its symbol stands. A name behind a dot is a field's, and one before `=` behind a brace, a
+operator such as ◌+◌ is used where its symbol stands. A name behind a dot is a field's, and one before `=` behind a brace, a
 comma or `let` is a field's, an argument's or a new one: none of these is an import. A module is used where a dot follows it.
 What `pub use` passes on is used.
 """
@@ -15,7 +15,7 @@ USE = re.compile(r"^(?:unfoldable )?(pub )?use ([^\s{;]+?)(?:\.\{([^}]*)\}| as (
 ANY_USE = re.compile(r"^\s*(?:unfoldable |pub )*use .*", re.M)
 TOKEN = re.compile(r'--[^\n]*|\{-.*?-\}|"(?:\\.|[^"\\])*"|«[^»]*»|[^\s(){}.;,@"«»]+|[(){}.;,@]', re.S)
 GHOST_USE = re.compile(r"^\s*ghost (use [^;]*);", re.M)
-CLAUSE = re.compile(r"\b(?:requires|ensures|ghost)\b(?:\s+\w+)?\s*\{")
+CLAUSE = re.compile(r"\b(?:requires|ensures|ghost)\b[*]?(?:\s+\w+:?)?\s*\{")
 BRACKET = re.compile(r"⟦([^⟧]*)⟧")
 RUST_USE = re.compile(r"^\s*(pub(?:\(\w+\))? )?use ([^;]*);", re.M)
 # comments, texts and characters
@@ -38,7 +38,7 @@ def imports(text):
 
 def parts(name):
     """What stands in a text where a name is used: itself, or each symbol of an operator or a section."""
-    return {name.strip("«»")} if name.startswith("«") else set(name.split("_")) - {""}
+    return {name.strip("«»")} if name.startswith("«") else set(name.split("◌")) - {""}
 
 
 def uses(text):
@@ -95,8 +95,8 @@ def unused_rt(text):
 
 def main():
     found = 0
-    for suffix, unused in (("antt", unused_antt), ("rt", unused_rt)):
-        for path in sorted(ROOT.glob(f"crates/**/*.{suffix}")):
+    for part, suffix, unused in (("specs", "antt", unused_antt), ("proofs", "antt", unused_antt), ("src", "rt", unused_rt)):
+        for path in sorted(ROOT.glob(f"crates/*/{part}/**/*.{suffix}")):
             for fault in unused(path.read_text()):
                 print(f"{path.relative_to(ROOT)}: {fault}")
                 found += 1

@@ -4,7 +4,7 @@
 Each NAME-answers.txt in docs/ and tests/plain/ is the output for NAME.txt beside it; the table of README.md and the numbered
 lines of docs/BOOKING.md are lines of such a session; docs/request.svg is what docs/draw.py draws.
 
-    python3 tests/sessions.py target/bin/unitlines
+    python3 tests/sessions.py crates/unitlines/out/unitlines
 """
 import re
 import subprocess

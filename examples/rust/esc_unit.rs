@@ -1,4 +1,4 @@
-//! A safe binding of the unit's calls: link `libc_calls.a`, which `rt staticlib c_calls` writes.
+//! A safe binding of the unit's calls: link `libc_calls.a`, which `tools/build c_calls` writes.
 //!
 //! What each call does stands in `include/esc_unit.h`. Nothing is allocated: what a call writes goes into a buffer
 //! that the caller lends, and a refusal leaves it as it was found.
