@@ -73,10 +73,10 @@ pub record Live : Type 0 where
   pub noisy-by-cuts : Newest noisy CameFrom
 
 pub live : Live
-unfolding number_at bytes_of crc_bit crc_bits crc_byte crc_from crc_of telemetry_of payload_of due record_of read_record request_bytes sample_bytes delivered_bytes
-    failure_bytes idle_bytes next_bytes ack_bytes wire_bytes timeout_bytes body_bytes answer_bytes since wire latest frame_at open_request started_at latest_frame
-    newly_started started_request faulted quiet_since retries timeout_for recovers note turn last_queued existing check verdict streak judged rule_for
-    trace_marked log_of since_in requests sent_by at_recovery at_opening always latest_t last_heard
+unfolding number_at bytes_of crc_bit crc_bits crc_byte crc_from crc_of telemetry_of payload_of due record_of read_record request_bytes sample_bytes
+    delivered_bytes failure_bytes idle_bytes next_bytes ack_bytes wire_bytes timeout_bytes body_bytes answer_bytes since wire latest frame_at
+    open_request started_at latest_frame newly_started started_request faulted quiet_since retries timeout_for recovers note turn last_queued existing
+    check verdict streak judged rule_for trace_marked log_of since_in requests sent_by at_recovery at_opening always latest_t last_heard
 live =
     record {
       flight-comes = row flight;

@@ -169,10 +169,10 @@ pub record PaceLists : Type 0 where
   pub bytes-wrong : Refuted NoOtherArm no_bytes
 
 pub pace-lists : PaceLists
-unfolding number_at bytes_of crc_bit crc_bits crc_byte crc_from crc_of telemetry_of payload_of due record_of read_record request_bytes sample_bytes delivered_bytes
-    failure_bytes idle_bytes next_bytes ack_bytes wire_bytes timeout_bytes body_bytes answer_bytes since wire latest frame_at open_request started_at latest_frame
-    newly_started started_request faulted quiet_since retries timeout_for recovers note turn last_queued existing check verdict streak judged rule_for
-    trace_marked log_of since_in requests taken_since always latest_t queued_at are_bytes of_bytes
+unfolding number_at bytes_of crc_bit crc_bits crc_byte crc_from crc_of telemetry_of payload_of due record_of read_record request_bytes sample_bytes
+    delivered_bytes failure_bytes idle_bytes next_bytes ack_bytes wire_bytes timeout_bytes body_bytes answer_bytes since wire latest frame_at
+    open_request started_at latest_frame newly_started started_request faulted quiet_since retries timeout_for recovers note turn last_queued existing
+    check verdict streak judged rule_for trace_marked log_of since_in requests taken_since always latest_t queued_at are_bytes of_bytes
 pace-lists =
     record {
       flight-comes = row noisy_flight;

@@ -77,10 +77,10 @@ pub first_live : (of_bytes (map roomy (started ++ tenth ∷ [])) ≡ true)
     × (sample_holds second given NoCheck ≡ answer)
     × (last_reply (started ++ tenth ∷ []) ≡ answer)
     × (last_reply (held ++ acks ∷ []) ≡ answer)
-unfolding number_at bytes_of crc_bit crc_bits crc_byte crc_from crc_of telemetry_of payload_of due record_of read_record request_bytes sample_bytes delivered_bytes
-    failure_bytes idle_bytes next_bytes ack_bytes wire_bytes timeout_bytes body_bytes answer_bytes reply_bytes since wire latest frame_at open_request started_at
-    latest_frame newly_started started_request faulted quiet_since retries timeout_for recovers note turn last_queued existing check verdict streak judged
-    rule_for trace_of are_bytes of_bytes
+unfolding number_at bytes_of crc_bit crc_bits crc_byte crc_from crc_of telemetry_of payload_of due record_of read_record request_bytes sample_bytes
+    delivered_bytes failure_bytes idle_bytes next_bytes ack_bytes wire_bytes timeout_bytes body_bytes answer_bytes reply_bytes since wire latest
+    frame_at open_request started_at latest_frame newly_started started_request faulted quiet_since retries timeout_for recovers note turn last_queued
+    existing check verdict streak judged rule_for trace_of are_bytes of_bytes
 first_live = (refl, refl, refl, refl, refl, refl)
 
 -- a record with 100 (hexadecimal) where a byte should be: the frame has it, and the answer has 00
@@ -96,8 +96,8 @@ widest = byte 2 (crc_of wide)
 pub bytes-needed : (of_bytes (map roomy widely) ≡ false)
     × (frame_for (past_by widely) (record_of widest) ≡ some (record { bytes = wide ++ crc_of wide ∷ []; at = 2 }))
     × (take 9 (drop 15 (last_reply (widely ++ widest ∷ []))) ≡ replicate 9 0x00)
-unfolding number_at bytes_of crc_bit crc_bits crc_byte crc_from crc_of telemetry_of payload_of due record_of read_record request_bytes sample_bytes delivered_bytes
-    failure_bytes idle_bytes next_bytes ack_bytes wire_bytes timeout_bytes body_bytes answer_bytes reply_bytes since wire latest frame_at open_request started_at
-    latest_frame newly_started started_request faulted quiet_since retries timeout_for recovers note turn last_queued existing check verdict streak judged
-    rule_for trace_of are_bytes of_bytes
+unfolding number_at bytes_of crc_bit crc_bits crc_byte crc_from crc_of telemetry_of payload_of due record_of read_record request_bytes sample_bytes
+    delivered_bytes failure_bytes idle_bytes next_bytes ack_bytes wire_bytes timeout_bytes body_bytes answer_bytes reply_bytes since wire latest
+    frame_at open_request started_at latest_frame newly_started started_request faulted quiet_since retries timeout_for recovers note turn last_queued
+    existing check verdict streak judged rule_for trace_of are_bytes of_bytes
 bytes-needed = (refl, refl, refl)

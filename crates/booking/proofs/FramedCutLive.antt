@@ -92,10 +92,11 @@ abbrev samples : List Parsed
 samples = replicate 9 Nothing ++ Sample (telemetry_of nine) ∷ (replicate 13 Nothing ++ Sample (telemetry_of second) ∷ [])
 
 pub alike : Comes before after true false same samples × Comes before' after' true false same samples
-unfolding number_at bytes_of crc_bit crc_bits crc_byte crc_from crc_of telemetry_of payload_of read_frame shifted_down push_of due same_request closed_by_sample
-    after_hearing quiet_window may_recover request_exists next_request mark_queued ack_on on_ack polled_on poll_timeout framed_on received_on push_wire try_recover
-    with_sample booked_in record_of read_record request_bytes sample_bytes delivered_bytes failure_bytes idle_bytes next_bytes ack_bytes wire_bytes timeout_bytes
-    report_bytes body_bytes answer_bytes step_of enter call_of since wire feed run passed reopened heard given
+unfolding number_at bytes_of crc_bit crc_bits crc_byte crc_from crc_of telemetry_of payload_of read_frame shifted_down push_of due same_request
+    closed_by_sample after_hearing quiet_window may_recover request_exists next_request mark_queued ack_on on_ack polled_on poll_timeout framed_on
+    received_on push_wire try_recover with_sample booked_in record_of read_record request_bytes sample_bytes delivered_bytes failure_bytes idle_bytes
+    next_bytes ack_bytes wire_bytes timeout_bytes report_bytes body_bytes answer_bytes step_of enter call_of since wire feed run passed reopened heard
+    given
 alike = (
   record { is_cut = refl; is-opened = refl; hears = refl; gives = refl },
   record { is_cut = refl; is-opened = refl; hears = refl; gives = refl },
@@ -120,10 +121,11 @@ pub record Apart : Type 0 where
   pub opened-anew : Comes before (calls (five ++ open' ∷ five)) true true (map byte second) (replicate 10 Nothing)
 
 pub apart : Apart
-unfolding number_at bytes_of crc_bit crc_bits crc_byte crc_from crc_of telemetry_of payload_of read_frame shifted_down push_of due same_request closed_by_sample
-    after_hearing quiet_window may_recover request_exists next_request mark_queued ack_on on_ack polled_on poll_timeout framed_on received_on push_wire try_recover
-    with_sample booked_in record_of read_record request_bytes sample_bytes delivered_bytes failure_bytes idle_bytes next_bytes ack_bytes wire_bytes timeout_bytes
-    report_bytes body_bytes answer_bytes step_of enter call_of since wire feed run passed reopened heard given
+unfolding number_at bytes_of crc_bit crc_bits crc_byte crc_from crc_of telemetry_of payload_of read_frame shifted_down push_of due same_request
+    closed_by_sample after_hearing quiet_window may_recover request_exists next_request mark_queued ack_on on_ack polled_on poll_timeout framed_on
+    received_on push_wire try_recover with_sample booked_in record_of read_record request_bytes sample_bytes delivered_bytes failure_bytes idle_bytes
+    next_bytes ack_bytes wire_bytes timeout_bytes report_bytes body_bytes answer_bytes step_of enter call_of since wire feed run passed reopened heard
+    given
 apart =
     record {
       as-asked = record { is_cut = refl; is-opened = refl; hears = refl; gives = refl };

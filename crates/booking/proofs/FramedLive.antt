@@ -40,8 +40,8 @@ pub framing : (ended_by 0x5a (map (byte 1) (0xaa ∷ 0x00 ∷ 0x00 ∷ []) ++ cu
     × (ended_by 0x5a (cut_wire ∷ map (byte 7) nine) ≡ some (nine ++ 0x5a ∷ []))
     × (ended_by 0x00 (map (byte 1) (replicate 9 0x00)) ≡ some (replicate 10 0x00))
     × (ended_by 0x00 (map (byte 1) (replicate 5 0x00) ++ cut_wire ∷ map (byte 1) (replicate 4 0x00)) ≡ none)
-unfolding number_at bytes_of crc_bit crc_bits crc_byte crc_from crc_of telemetry_of payload_of due record_of read_record request_bytes sample_bytes delivered_bytes
-    failure_bytes idle_bytes next_bytes ack_bytes wire_bytes timeout_bytes body_bytes answer_bytes since wire latest frame_at open_request started_at latest_frame
-    newly_started started_request faulted quiet_since retries timeout_for recovers note turn last_queued existing check verdict streak judged rule_for
-    trace_of
+unfolding number_at bytes_of crc_bit crc_bits crc_byte crc_from crc_of telemetry_of payload_of due record_of read_record request_bytes sample_bytes
+    delivered_bytes failure_bytes idle_bytes next_bytes ack_bytes wire_bytes timeout_bytes body_bytes answer_bytes since wire latest frame_at
+    open_request started_at latest_frame newly_started started_request faulted quiet_since retries timeout_for recovers note turn last_queued existing
+    check verdict streak judged rule_for trace_of
 framing = (refl, refl, refl, refl)

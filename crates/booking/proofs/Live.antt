@@ -86,10 +86,10 @@ abbrev pub booked' : ℕ → ℕ → ℕ → ℕ → Reading
 booked' l s t e = record { lane = l; sequence = s; at = t; erpm = e }
 
 pub deliveries : readings (trace_of [] (map roomy flight)) ≡ booked' 0 0 2 60 ∷ booked' 1 1 5 62 ∷ booked' 0 4 1801 63 ∷ booked' 1 5 1901 64 ∷ []
-unfolding number_at bytes_of crc_bit crc_bits crc_byte crc_from crc_of telemetry_of payload_of due record_of read_record request_bytes sample_bytes delivered_bytes
-    failure_bytes idle_bytes next_bytes ack_bytes wire_bytes timeout_bytes body_bytes answer_bytes since wire latest frame_at open_request started_at latest_frame
-    newly_started started_request faulted quiet_since retries timeout_for recovers note turn last_queued existing check verdict streak judged rule_for
-    trace_of
+unfolding number_at bytes_of crc_bit crc_bits crc_byte crc_from crc_of telemetry_of payload_of due record_of read_record request_bytes sample_bytes
+    delivered_bytes failure_bytes idle_bytes next_bytes ack_bytes wire_bytes timeout_bytes body_bytes answer_bytes since wire latest frame_at
+    open_request started_at latest_frame newly_started started_request faulted quiet_since retries timeout_for recovers note turn last_queued existing
+    check verdict streak judged rule_for trace_of
 deliveries = refl
 
 -- what of a list of records is accepted, by the rule
@@ -110,10 +110,10 @@ past = past_by flight
 -- seven queued: four delivered, a timeout of each kind, and one open
 pub balance : (count queued past ≡ 7) × (count delivered past ≡ 4) × (count ack_timeout past ≡ 1) × (count response_timeout past ≡ 1) × (is (open_request
     past) ≡ true)
-unfolding number_at bytes_of crc_bit crc_bits crc_byte crc_from crc_of telemetry_of payload_of due record_of read_record request_bytes sample_bytes delivered_bytes
-    failure_bytes idle_bytes next_bytes ack_bytes wire_bytes timeout_bytes body_bytes answer_bytes since wire latest frame_at open_request started_at latest_frame
-    newly_started started_request faulted quiet_since retries timeout_for recovers note turn last_queued existing check verdict streak judged rule_for
-    trace_of count
+unfolding number_at bytes_of crc_bit crc_bits crc_byte crc_from crc_of telemetry_of payload_of due record_of read_record request_bytes sample_bytes
+    delivered_bytes failure_bytes idle_bytes next_bytes ack_bytes wire_bytes timeout_bytes body_bytes answer_bytes since wire latest frame_at
+    open_request started_at latest_frame newly_started started_request faulted quiet_since retries timeout_for recovers note turn last_queued existing
+    check verdict streak judged rule_for trace_of count
 balance = (refl, refl, refl, refl, refl)
 
 -- what a 0c then reports: five 03s taken, one of them with a sample, and one rejected
@@ -122,8 +122,8 @@ stats = (report_for past).stats
 
 pub report : (stats.requests_queued ≡ 7) × (stats.requests_started ≡ 5) × (stats.actuator_ack_timeouts ≡ 1) ×
     (stats.telemetry_response_timeouts ≡ 1) × (stats.mismatched_acks ≡ 1) × (stats.recoveries ≡ 2)
-unfolding number_at bytes_of crc_bit crc_bits crc_byte crc_from crc_of telemetry_of payload_of due record_of read_record request_bytes sample_bytes delivered_bytes
-    failure_bytes idle_bytes next_bytes ack_bytes wire_bytes timeout_bytes body_bytes answer_bytes since wire latest frame_at open_request started_at latest_frame
-    newly_started started_request faulted quiet_since retries timeout_for recovers note turn last_queued existing check verdict streak judged rule_for
-    trace_of count renewed report_for
+unfolding number_at bytes_of crc_bit crc_bits crc_byte crc_from crc_of telemetry_of payload_of due record_of read_record request_bytes sample_bytes
+    delivered_bytes failure_bytes idle_bytes next_bytes ack_bytes wire_bytes timeout_bytes body_bytes answer_bytes since wire latest frame_at
+    open_request started_at latest_frame newly_started started_request faulted quiet_since retries timeout_for recovers note turn last_queued existing
+    check verdict streak judged rule_for trace_of count renewed report_for
 report = (refl, refl, refl, refl, refl, refl)

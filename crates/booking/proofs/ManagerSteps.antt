@@ -235,10 +235,14 @@ module _ (o : Opening) (h : Past) (p : StreamParser) (i : ParserAt h p) where
   abbrev PollOk : ℕ → Idle → Type 0
   PollOk now d =
       poll_timeout (manager_at o h p) now
-      ≡ record { manager = manager_at o (event (timeout_seen (said_timeout (timeout_for o h now)).timeout) no_wire now false d ∷ h) p; answer = timeout_for o h now }
+      ≡ record {
+        manager = manager_at o (event (timeout_seen (said_timeout (timeout_for o h now)).timeout) no_wire now false d ∷ h) p;
+        answer = timeout_for o h now;
+      }
 
   poll-open : (now : ℕ) (d : Idle) → Open h → PollOk now d
-  unfolding poll_timeout polled_on timeout_for turn last_queued open_request started_at latest_frame faulted quiet_since retries note wrapping saturating renewed
+  unfolding poll_timeout polled_on timeout_for turn last_queued open_request started_at latest_frame faulted quiet_since retries note wrapping
+      saturating renewed
   poll-open now d (nothing e) = rw e
   poll-open now d (waiting q e s) = go (due q.at now o.config.actuator_ack_timeout_ms) refl
     where

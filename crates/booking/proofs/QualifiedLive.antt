@@ -75,9 +75,9 @@ pub statuses : (last (open' ∷ asking 5 ∷ []) ≡ some NoCheck)
     × (last (open' ∷ checking 30 1 ∷ reading 0 0 60 20 ++ reading 1 1 101 20) ≡ some (Status (Failed (Overspeed (record { 0 = Output2 }) 101))))
     × (last (open' ∷ checking 30 1 ∷ reading 0 0 60 750 ++ (reading 1 1 60 850 ++ (reading 2 2 29 900 ++ (asking 1000 ∷ [])))) ≡ some (Status
     (Failed (Timeout 0 1 0 0))))
-unfolding number_at bytes_of crc_bit crc_bits crc_byte crc_from crc_of telemetry_of payload_of due record_of read_record request_bytes sample_bytes delivered_bytes
-    failure_bytes idle_bytes ack_bytes wire_bytes body_bytes answer_bytes since wire latest frame_at open_request started_at latest_frame newly_started
-    started_request faulted turn last_queued existing check verdict valid streak judged rule_for trace_of
+unfolding number_at bytes_of crc_bit crc_bits crc_byte crc_from crc_of telemetry_of payload_of due record_of read_record request_bytes sample_bytes
+    delivered_bytes failure_bytes idle_bytes ack_bytes wire_bytes body_bytes answer_bytes since wire latest frame_at open_request started_at
+    latest_frame newly_started started_request faulted turn last_queued existing check verdict valid streak judged rule_for trace_of
 statuses = (refl, refl, refl, refl, refl, refl)
 
 abbrev before : Past → Past
@@ -88,7 +88,7 @@ before (e ∷ h) = h
 pub first : (verdict (before (past_by qualifying)) ≡ none)
     × (map (λ (l : Lane). map erpm (counted (past_by qualifying) l)) (Output1 ∷ Output2 ∷ Output3 ∷ Output4 ∷ [])
     ≡ (60 ∷ 60 ∷ []) ∷ (60 ∷ 60 ∷ 29 ∷ []) ∷ (100 ∷ 100 ∷ []) ∷ (30 ∷ 30 ∷ []) ∷ [])
-unfolding number_at bytes_of crc_bit crc_bits crc_byte crc_from crc_of telemetry_of payload_of due record_of read_record request_bytes sample_bytes delivered_bytes
-    failure_bytes idle_bytes ack_bytes wire_bytes body_bytes answer_bytes since wire latest frame_at open_request started_at latest_frame newly_started
-    started_request faulted turn last_queued existing check verdict valid streak judged counted rule_for trace_of
+unfolding number_at bytes_of crc_bit crc_bits crc_byte crc_from crc_of telemetry_of payload_of due record_of read_record request_bytes sample_bytes
+    delivered_bytes failure_bytes idle_bytes ack_bytes wire_bytes body_bytes answer_bytes since wire latest frame_at open_request started_at
+    latest_frame newly_started started_request faulted turn last_queued existing check verdict valid streak judged counted rule_for trace_of
 first = (refl, refl)

@@ -69,10 +69,10 @@ pub newest-live : (newest Output1 flight ≡ some (booked' 0 4 5 64))
     × (newest Output1 (flight ++ recovery) ≡ none)
     × (newest Output2 (flight ++ (recovery ++ later)) ≡ none)
     × (newest Output3 (flight ++ (recovery ++ later)) ≡ some (booked' 2 6 527 65))
-unfolding number_at bytes_of crc_bit crc_bits crc_byte crc_from crc_of telemetry_of payload_of due record_of read_record request_bytes sample_bytes delivered_bytes
-    failure_bytes idle_bytes next_bytes ack_bytes wire_bytes timeout_bytes body_bytes answer_bytes since wire latest frame_at open_request started_at latest_frame
-    newly_started started_request faulted quiet_since retries timeout_for recovers note turn last_queued existing check verdict streak judged rule_for
-    trace_of delivered_on since_recovery
+unfolding number_at bytes_of crc_bit crc_bits crc_byte crc_from crc_of telemetry_of payload_of due record_of read_record request_bytes sample_bytes
+    delivered_bytes failure_bytes idle_bytes next_bytes ack_bytes wire_bytes timeout_bytes body_bytes answer_bytes since wire latest frame_at
+    open_request started_at latest_frame newly_started started_request faulted quiet_since retries timeout_for recovers note turn last_queued existing
+    check verdict streak judged rule_for trace_of delivered_on since_recovery
 newest-live = (refl, refl, refl, refl, refl)
 
 -- and the answers: 00 none, or 01 sample
@@ -87,8 +87,8 @@ pub shown-live : (last_reply (flight ++ show 0 ∷ []) ≡ sample 0 4 5 64)
     × (last_reply (flight ++ (recovery ++ show 0 ∷ [])) ≡ none')
     × (last_reply (flight ++ (recovery ++ (later ++ show 1 ∷ []))) ≡ none')
     × (last_reply (flight ++ (recovery ++ (later ++ show 2 ∷ []))) ≡ sample 2 6 527 65)
-unfolding number_at bytes_of crc_bit crc_bits crc_byte crc_from crc_of telemetry_of payload_of due record_of read_record request_bytes sample_bytes delivered_bytes
-    failure_bytes idle_bytes next_bytes ack_bytes wire_bytes timeout_bytes stored_bytes body_bytes answer_bytes reply_bytes since wire latest frame_at
-    open_request started_at latest_frame newly_started started_request faulted quiet_since retries timeout_for recovers note turn last_queued existing check
-    verdict streak judged rule_for trace_of stored
+unfolding number_at bytes_of crc_bit crc_bits crc_byte crc_from crc_of telemetry_of payload_of due record_of read_record request_bytes sample_bytes
+    delivered_bytes failure_bytes idle_bytes next_bytes ack_bytes wire_bytes timeout_bytes stored_bytes body_bytes answer_bytes reply_bytes since wire
+    latest frame_at open_request started_at latest_frame newly_started started_request faulted quiet_since retries timeout_for recovers note turn
+    last_queued existing check verdict streak judged rule_for trace_of stored
 shown-live = (refl, refl, refl, refl, refl)

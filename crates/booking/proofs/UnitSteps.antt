@@ -250,7 +250,8 @@ module _ (o : Opening) (h : Past) (p : StreamParser) (b : Books) (parser : Parse
   received-on x now none =
       record {
         answers = refl;
-        unit = leaves (wire_event x now none) _ (push_of p x).parser b refl refl (parser-byte h p parser x _ now false _) (same h b books _ refl refl refl refl);
+        unit = leaves (wire_event x now none) _ (push_of p x).parser b refl refl (parser-byte h p parser x _ now false _)
+            (same h b books _ refl refl refl refl);
       }
   received-on x now (some u) =
       let kept = took h b books u now (wire_event x now (some u)) refl refl refl refl refl in

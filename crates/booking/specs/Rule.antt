@@ -62,7 +62,8 @@ answer_to o h (kind.NextRequest now) = answer.Request (next_answer (existing o h
 answer_to o h (kind.MarkRequestQueued q now) = answer.Decided (names (existing o h now) q)
 answer_to o h (kind.ActuatorAck k now) = answer.Ack (ack_answer (newly_started h k.request) (latest_frame h) (λ u. judged h (some u) now))
 answer_to o h (kind.PollTimeout now) = answer.Timeout (timeout_for o h now)
-answer_to o h (kind.WireByte b now) = answer.Wire (wire_answer_of (booked_to (started_request h) (timed (frame_at (wire h) b) now)) (λ u. judged h (some u) now))
+answer_to o h (kind.WireByte b now) = answer.Wire (wire_answer_of (booked_to (started_request h) (timed (frame_at (wire h) b) now))
+    (λ u. judged h (some u) now))
 answer_to o h kind.WireDiscontinuity = answer.Done
 answer_to o h (kind.TryRecover armed now) = answer.Decided (recovers o h armed now)
 answer_to o h kind.TakeBackAfterRetries = answer.BackAfterRetries (note_answer (note h))

@@ -26,7 +26,10 @@ module _ (m : EscManager) (sample : EscTelemetry) (at : ℕ) where
 
   module _ (q : EscActuatorRequest) (t : ℕ) where
     pub framed-held : (held : EarlyObservation) → m.outstanding.pending ≡ pending.Queued q t held
-        → frame_taken m sample at ≡ record { manager = set_outstanding (queued_outstanding q t (early.Some (observation_of q sample at))) m; answer = update.None }
+        → frame_taken m sample at ≡ record {
+          manager = set_outstanding (queued_outstanding q t (early.Some (observation_of q sample at))) m;
+          answer = update.None;
+        }
     unfolding framed_on
     framed-held held e = ap (framed_on m sample at) e
 

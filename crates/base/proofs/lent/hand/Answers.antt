@@ -9,7 +9,10 @@ returns-then-out-count c = let a = c.args in
     let text = take a.n a.text.now in
     let n = length-take a.n a.text.now in
     let count = c.smaller-count.ensures in
-    record { result_value = sym (short-reply text a.out.now (omega (arith, n, count))); out_after = sym (short-output text a.out.now (omega (arith, n, count))) }
+    record {
+      result_value = sym (short-reply text a.out.now (omega (arith, n, count)));
+      out_after = sym (short-output text a.out.now (omega (arith, n, count)));
+    }
 
 pub returns : goal.returns
 returns c = let a = c.args in

@@ -18,4 +18,7 @@ returns c = let t = c.args.telemetry in
     let out = c.args.out.now in
     let check : c.crc8-check.result ≡ crc_of (payload_of t) = c.crc8-check.ensures ∙ ap crc_of (ap (take 9) c.put_payload.ensures ∙ payload-front t out
     c.if-out-lt-FRAME_LEN.false) in
-    record { result_value = sym (room-reply t out c.if-out-lt-FRAME_LEN.false); out_after = rw (c.put_payload.ensures, check) (room-written t out c.if-out-lt-FRAME_LEN.false) }
+    record {
+      result_value = sym (room-reply t out c.if-out-lt-FRAME_LEN.false);
+      out_after = rw (c.put_payload.ensures, check) (room-written t out c.if-out-lt-FRAME_LEN.false);
+    }

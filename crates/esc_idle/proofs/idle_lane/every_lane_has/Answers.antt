@@ -13,8 +13,10 @@ pub loop-i-preserved : goal.loop-i-preserved
 loop-i-preserved c = let s = c.args in
     let h = c.has.ensures in (
       elim c.if-not-has.branch [
-        | then-not-has w ↦ every-lost s.required s.lanes c.loop-i.every c.loop-i.i c.loop-i.invariant.0 c.if-not-has.every w.every-is (omega arith) (sym h ∙ w.if-not-has.true)
-        | else-not-has w ↦ every-kept s.required s.lanes c.loop-i.every c.loop-i.i c.loop-i.invariant.0 c.if-not-has.every w.every-is (omega arith) (sym h ∙ w.if-not-has.false)
+        | then-not-has w ↦ every-lost s.required s.lanes c.loop-i.every c.loop-i.i c.loop-i.invariant.0 c.if-not-has.every w.every-is (omega arith)
+            (sym h ∙ w.if-not-has.true)
+        | else-not-has w ↦ every-kept s.required s.lanes c.loop-i.every c.loop-i.i c.loop-i.invariant.0 c.if-not-has.every w.every-is (omega arith)
+            (sym h ∙ w.if-not-has.false)
       ],
       (search rules, c.loop-i.invariant.1.1),
     )

@@ -12,6 +12,7 @@ returns-in-Record c = let a = c.args in
     c.answered.ensures
 
 pub returns-in-Refused : goal.returns-in-Refused
-returns-in-Refused c = let m = meets-refusal c.args.self _ c.args.out.now _ _ _ c.refused.ensures (call-refused c.args.self c.args.«record».now _ _ (sym c.admit-taken.ensures ∙ ap
+returns-in-Refused c = let m = meets-refusal c.args.self _ c.args.out.now _ _ _ c.refused.ensures
+    (call-refused c.args.self c.args.«record».now _ _ (sym c.admit-taken.ensures ∙ ap
     record_read c.in-Refused.is)) refl in
     record { unit_value = m.0; reply_value = m.1.0; out_after = m.1.1 }
