@@ -3,7 +3,6 @@ use native.Mathlib.Omega.{arith}
 use mathlib.Core.Path.{◌∙◌}
 use lib.ListN.{length-set}
 use Rattle.blheli_telemetry.proofs.FrameLaws.{payload-built}
-use Rattle.blheli_telemetry.proofs.frame.put_payload.Goals.{After-put_be16, After-put_be16-2, After-put_be16-3}
 use Rattle.blheli_telemetry.proofs.frame.put_payload.Goals as goal
 
 pub put_be16-requires : goal.put_be16-requires
