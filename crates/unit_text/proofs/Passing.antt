@@ -104,7 +104,8 @@ module _ {text out₀ : List ℕ} {writes : Bool} {s : Streamed} {piece out : Li
         short-of _
         (omega (
           arith,
-          length-append (printed at_start (take next text)) (printed (after at_start (take next text)) (drop next text) ++ printed_at_end (after at_start text)),
+          length-append (printed at_start (take next text)) (printed (after at_start (take next text)) (drop next text)
+              ++ printed_at_end (after at_start text)),
           further-length,
           k.fits,
         ))

@@ -26,4 +26,7 @@ loop-i-preserved c = let a = c.args in
 
 pub returns : goal.returns
 returns c = let a = c.args in
-    let l = c.loop-i in record { value = omega (arith, printed-length a.bytes.now); out_after = print-end a.bytes.now l.i a.out.now l.out a.at l.next (omega arith) (omega arith) (omega arith) l.invariant.2 l.invariant.3 }
+    let l = c.loop-i in record {
+      value = omega (arith, printed-length a.bytes.now);
+      out_after = print-end a.bytes.now l.i a.out.now l.out a.at l.next (omega arith) (omega arith) (omega arith) l.invariant.2 l.invariant.3;
+    }
