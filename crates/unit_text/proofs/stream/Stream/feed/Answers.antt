@@ -243,7 +243,8 @@ loop-used-preserved-in-Sample c = let t = (goal.at.loop-used-preserved-in-Sample
     c.print_answer-written-in-Sample.auto.out)
 
 pub print_answer-written-requires-in-PollTimeout : goal.print_answer-written-requires-in-PollTimeout
-print_answer-written-requires-in-PollTimeout c = (answer-fits _ c.encode_timeout.ensures.0, space ((goal.at.print_answer-written-requires-in-PollTimeout c).In-Record))
+print_answer-written-requires-in-PollTimeout c =
+    (answer-fits _ c.encode_timeout.ensures.0, space ((goal.at.print_answer-written-requires-in-PollTimeout c).In-Record))
 
 pub loop-used-smaller-in-PollTimeout : goal.loop-used-smaller-in-PollTimeout
 loop-used-smaller-in-PollTimeout c = shorter ((goal.at.loop-used-smaller-in-PollTimeout c).In-Record)
@@ -300,7 +301,8 @@ loop-used-preserved-in-Some c = let t = (goal.at.loop-used-preserved-in-Some c).
     c.print_answer-written-in-Some.auto.out)
 
 pub print_answer-written-requires-in_default-record : goal.print_answer-written-requires-in_default-record
-print_answer-written-requires-in_default-record c = (answer-fits _ c.encode_answer.ensures.0, space ((goal.at.print_answer-written-requires-in_default-record c).In-Record))
+print_answer-written-requires-in_default-record c =
+    (answer-fits _ c.encode_answer.ensures.0, space ((goal.at.print_answer-written-requires-in_default-record c).In-Record))
 
 pub loop-used-smaller : goal.loop-used-smaller
 loop-used-smaller c = shorter ((goal.at.loop-used-smaller c).In-Record)

@@ -6,7 +6,8 @@ use Rattle.unit_text.proofs.stream.Stream.feed.Given as goal
 
 abbrev pub invariant-loop-used : goal.invariant-loop-used
 invariant-loop-used l = Feeding
-    (record { unit = record { opened = l.initial.opened; manager = l.initial.manager; books = l.initial.books }; line = take l.initial.held l.initial.line }) l.chunk l.initial.out
+    (record { unit = record { opened = l.initial.opened; manager = l.initial.manager; books = l.initial.books }; line = take l.initial.held l.initial.line })
+    l.chunk l.initial.out
     (record { opened = l.opened; manager = l.manager; books = l.books }) l.line l.held l.bytes l.out l.used l.written
 
 abbrev pub decreases-loop-used : goal.decreases-loop-used
