@@ -11,8 +11,8 @@ number r = number_of r
 
 pub returns-in-Written : goal.returns-in-Written
 returns-in-Written c = let e = c.encode-encoded in
-    (ap number (sym (ap encoded c.in-Written.is) ∙ e.ensures.0), e.ensures.1)
+    record { value = ap number (sym (ap encoded c.in-Written.is) ∙ e.ensures.result_value); out_after = e.ensures.out_after }
 
 pub returns-in-Space : goal.returns-in-Space
 returns-in-Space c = let e = c.encode-encoded in
-    (ap number (sym (ap encoded c.in-Space.is) ∙ e.ensures.0), e.ensures.1)
+    record { value = ap number (sym (ap encoded c.in-Space.is) ∙ e.ensures.result_value); out_after = e.ensures.out_after }

@@ -17,8 +17,8 @@ put-requires c = let pre = c.requires in
 pub loop-i-preserved : goal.loop-i-preserved
 loop-i-preserved c = let k = c.put in
     let l = c.loop-i in
-    running_more l.invariant (omega (arith, c.loop-i-test.true)) _ _ c.pushed-pushed.result c.pushed-pushed.ensures k.auto.1.1.0
-    k.auto.1.1.1.0 k.ensures.0 k.ensures.1
+    running_more l.invariant (omega (arith, c.loop-i-test.true)) _ _ c.pushed-pushed.result c.pushed-pushed.ensures k.auto.gave
+    k.auto.fields k.ensures.gave_after k.ensures.fields_after
 
 pub shape_of-gave : goal.shape_of-gave
 shape_of-gave c = c.loop-i.invariant.gave-long
@@ -29,4 +29,4 @@ shape_of-fields c = c.loop-i.invariant.fields-long
 pub returns : goal.returns
 returns c = let l = c.loop-i in
     let end = running-end l.invariant (omega (arith, c.loop-i-test.false)) in
-    (c.stats.ensures ∙ end.0, end.1)
+    record { value = c.stats.ensures ∙ end.0; gave_after = end.1.0; fields_after = end.1.1 }
