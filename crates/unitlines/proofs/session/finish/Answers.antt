@@ -1,5 +1,4 @@
 -- What is written is within the output, and is what the stream prints at the end.
-use borrow.Author.Rules.{rules}
 use native.Mathlib.Omega.{arith}
 use mathlib.Core.Path.{sym, ap, ◌∙◌}
 use lib.Seq.{length-take-le}
@@ -17,10 +16,9 @@ slice_bounds-write_end-end g c = let f = c.finish-end in
 
 pub slice_bounds-write_end-end-2 : goal.slice_bounds-write_end-end-2
 slice_bounds-write_end-end-2 g c = let f = c.finish-end in
-    let start = c.before in
-    let text = printed_at_end (streamed start.args.stream) in
+    let text = printed_at_end (streamed c.args.stream) in
     let told = sym (ap handed c.in-Written.is) ∙ f.ensures.result_value in
-    sym (length-take-le _ f.new.out (omega (arith, told-within text start.args.out.now _ told, f.auto.out)))
+    sym (length-take-le _ f.new.out (omega (arith, told-within text c.args.out.now _ told, f.auto.out)))
 
 pub write_end-requires : goal.write_end-requires
 write_end-requires g c = let f = c.finish-end in

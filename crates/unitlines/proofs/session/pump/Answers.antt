@@ -1,11 +1,9 @@
 -- What was used of the chunk is what the stream has passed; what a turn writes is what the stream prints at the turn's part.
-use borrow.Author.Rules.{rules}
 use native.Mathlib.Omega.{arith}
 use mathlib.Core.Path.{◌≡◌, refl, sym, ap, ◌∙◌}
-use mathlib.Core.Bool.{false≢true}
-use Prim.Native.Nat.{ℕ, ◌+◌, ◌-◌, ◌≤◌}
-use lib.ListN.{length, take, drop, length-drop}
-use lib.Seq.{length-take-le, take_all}
+use Prim.Native.Nat.{ℕ, ◌+◌, ◌-◌}
+use lib.ListN.{take, drop, length-drop}
+use lib.Seq.{length-take-le}
 use Rattle.unit_text.specs.Stream.{after, printed}
 use Rattle.unit_text.specs.Streams.{streamed}
 use Rattle.unit_text.proofs.Feeding.{part_left}
@@ -44,36 +42,26 @@ slice_bounds-write_printed-end-in-loop-used-2 g c = let f = c.feed-fed in
 pub write_printed-requires : goal.write_printed-requires
 write_printed-requires g c = let f = c.feed-fed in
     let l = c.loop-used in
-    let chunk = c.before.args.chunk.now in
+    let chunk = c.args.chunk.now in
     let fed = rw (part_left _ l.used) at f.ensures.result_value in
     let text = rw (part_left _ l.used) at f.ensures.out_after in
     let n : f.result.used ≡ l.used + f.result.used - l.used = omega arith in
     fed-text _ _ _ _ fed _ _ refl text ∙ ap (λ (k : ℕ). printed (streamed l.stream) (take k (drop l.used chunk))) n
 
-pub returns-then-not-write_printed : goal.returns-then-not-write_printed
-returns-then-not-write_printed g c = λ e. absurd (false≢true e)
-
 pub loop-used-smaller : goal.loop-used-smaller
 loop-used-smaller g c = let f = c.feed-fed in
     let tested = c.loop-used-test in
     let l = c.loop-used in
-    let start = c.before in
     let fed = rw (part_left _ l.used) at f.ensures.result_value in
-    let n = length-drop l.used start.args.chunk.now in
-    let some = fed-some _ _ _ _ fed (omega (arith, l.invariant.1, start.requires)) (omega (arith, n, tested.true)) in
+    let n = length-drop l.used c.args.chunk.now in
+    let some = fed-some _ _ _ _ fed (omega (arith, l.invariant.1, c.requires)) (omega (arith, n, tested.true)) in
     omega (arith, n, l.invariant.0, fed-within _ _ _ _ fed, some)
 
 pub loop-used-preserved : goal.loop-used-preserved
 loop-used-preserved g c = let f = c.feed-fed in
     let l = c.loop-used in
-    let start = c.before in
     let fed = rw (part_left _ l.used) at f.ensures.result_value in (
-      omega (arith, length-drop l.used start.args.chunk.now, l.invariant.0, fed-within _ _ _ _ fed),
+      omega (arith, length-drop l.used c.args.chunk.now, l.invariant.0, fed-within _ _ _ _ fed),
       f.auto.out ∙ l.invariant.1,
       fed-stream _ _ _ _ fed ∙ after_on _ _ _ l.used f.result.used l.invariant.2,
     )
-
-pub returns : goal.returns
-returns g c = let l = c.loop-used in
-    let a = c.args in
-    λ e. l.invariant.2 ∙ ap (after (streamed a.stream)) (take_all l.used a.chunk.now c.loop-used-test.false)
