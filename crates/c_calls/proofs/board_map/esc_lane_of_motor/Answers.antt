@@ -1,5 +1,4 @@
 -- Map and motor are read, converted, and the result told.
-use borrow.Author.Rules.{rules}
 use Rattle.c_calls.proofs.board_map.esc_lane_of_motor.Goals as goal
 
 pub returns : goal.returns

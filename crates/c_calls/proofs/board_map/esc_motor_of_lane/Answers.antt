@@ -1,5 +1,4 @@
 -- Map and lane are read, converted, and the result told.
-use borrow.Author.Rules.{rules}
 use Rattle.c_calls.proofs.board_map.esc_motor_of_lane.Goals as goal
 
 pub returns : goal.returns

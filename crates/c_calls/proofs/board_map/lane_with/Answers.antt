@@ -1,5 +1,4 @@
 -- What is read of the map and of the motor, case by case.
-use borrow.Author.Rules.{rules}
 use native.Mathlib.Omega.{arith}
 use Rattle.esc_lanes.proofs.OutputLaws.{lane_below}
 use Rattle.c_calls.proofs.BoardMapLaws.{length-before-motor}

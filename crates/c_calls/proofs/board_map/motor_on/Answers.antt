@@ -1,5 +1,4 @@
 -- What is read of the map and of the lane, case by case.
-use borrow.Author.Rules.{rules}
 use Rattle.c_calls.proofs.BoardMapLaws.{length-before-lane}
 use Rattle.c_calls.proofs.board_map.motor_on.Goals as goal
 

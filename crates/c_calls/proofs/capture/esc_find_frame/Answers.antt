@@ -1,5 +1,4 @@
 -- What was found stands at a place; the length is the start of no window.
-use borrow.Author.Rules.{rules}
 use mathlib.Core.Path.{subst}
 use Rattle.blheli_telemetry.specs.Capture.{Searched}
 use Rattle.c_calls.proofs.PlaceLaws.{at-start, at_length}

@@ -1,5 +1,4 @@
 -- One law for each return.
-use borrow.Author.Rules.{rules}
 use native.Mathlib.Omega.{arith}
 use mathlib.Core.Path.{sym, ap, ◌∙◌}
 use Rattle.blheli_telemetry.specs.Frame.{decoded}

@@ -1,5 +1,4 @@
 -- The number is that of the answer of `encode`.
-use borrow.Author.Rules.{rules}
 use mathlib.Core.Path.{sym, ap, ◌∙◌}
 use Prim.Native.Nat.{ℕ}
 use Rattle.base.specs.Reply.{Reply, number_of}

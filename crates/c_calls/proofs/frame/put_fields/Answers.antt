@@ -1,5 +1,4 @@
 -- Five stores, each behind the one before.
-use borrow.Author.Rules.{rules}
 use native.Mathlib.Omega.{arith}
 use lib.ListN.{length-set}
 use Rattle.c_calls.proofs.StoreLaws.{five-stores}

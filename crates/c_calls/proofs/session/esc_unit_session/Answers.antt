@@ -1,5 +1,4 @@
 -- The number and the count are those of `session`.
-use borrow.Author.Rules.{rules}
 use mathlib.Core.Path.{sym, ap, ◌∙◌}
 use Prim.Native.Nat.{ℕ}
 use Rattle.base.specs.Reply.{Reply, number_of}

@@ -1,5 +1,4 @@
 -- The number and the speed are those of `motor_speed`.
-use borrow.Author.Rules.{rules}
 use mathlib.Core.Path.{refl}
 use Rattle.c_calls.proofs.speed.esc_motor_speed.Goals as goal
 

@@ -1,6 +1,4 @@
 -- Three tests of room; then the run, and its counts.
-use borrow.Author.Rules.{rules}
-use native.Mathlib.Omega.{arith}
 use mathlib.Core.Path.{refl, ap, ◌∙◌}
 use Rattle.blheli_telemetry.specs.declared.parser.ParserStats.{ParserStats}
 use Rattle.c_calls.specs.Stream.{counts_in}

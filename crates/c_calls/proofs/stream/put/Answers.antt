@@ -1,5 +1,4 @@
 -- A mark, and the fields where there is a sample.
-use borrow.Author.Rules.{rules}
 use mathlib.Core.Path.{refl}
 use Rattle.c_calls.proofs.stream.put.Goals as goal
 

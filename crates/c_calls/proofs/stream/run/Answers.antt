@@ -1,10 +1,7 @@
 -- The parser is run byte by byte, and what each brings out is put in its place.
-use borrow.Author.Rules.{rules}
 use native.Mathlib.Omega.{arith}
 use mathlib.Core.Path.{◌∙◌}
-use Prim.Native.Nat.{◌-◌}
-use lib.ListN.{length}
-use Rattle.c_calls.proofs.Running.{Running, running_none, running_more, running-end}
+use Rattle.c_calls.proofs.Running.{running_none, running_more, running-end}
 use Rattle.c_calls.proofs.stream.run.Goals as goal
 
 pub loop-i-init : goal.loop-i-init

@@ -1,7 +1,5 @@
 -- The place stays within the records.
 use Prim.Native.Nat.{◌≤◌, ◌-◌}
-use native.Mathlib.Omega.{arith}
-use borrow.Author.Rules.{rules}
 use lib.ListN.{length}
 use Rattle.vectors.proofs.session.each.Given as goal
 
