@@ -7,15 +7,18 @@ use Rattle.c_calls.proofs.stream.esc_stream_parse.Goals as goal
 
 pub returns-then-gave-bytes : goal.returns-then-gave-bytes
 returns-then-gave-bytes c = let a = c.args in
-    rw (few-marks a.bytes.now a.gave.now a.fields.now a.counts.now c.if-gave-bytes.true) record { value = refl; gave_after = refl; fields_after = refl; counts_after = refl }
+    rw (few-marks a.bytes.now a.gave.now a.fields.now a.counts.now c.if-gave-bytes.true)
+    record { value = refl; gave_after = refl; fields_after = refl; counts_after = refl }
 
 pub returns-then-fields-bytes : goal.returns-then-fields-bytes
 returns-then-fields-bytes c = let a = c.args in
-    rw (few-fields a.bytes.now a.gave.now a.fields.now a.counts.now c.if-gave-bytes.false c.if-fields-bytes.true) record { value = refl; gave_after = refl; fields_after = refl; counts_after = refl }
+    rw (few-fields a.bytes.now a.gave.now a.fields.now a.counts.now c.if-gave-bytes.false c.if-fields-bytes.true)
+    record { value = refl; gave_after = refl; fields_after = refl; counts_after = refl }
 
 pub returns-then-counts-lt3 : goal.returns-then-counts-lt3
 returns-then-counts-lt3 c = let a = c.args in
-    rw (few-counts a.bytes.now a.gave.now a.fields.now a.counts.now c.if-gave-bytes.false c.if-fields-bytes.false c.if-counts-lt3.true) record { value = refl; gave_after = refl; fields_after = refl; counts_after = refl }
+    rw (few-counts a.bytes.now a.gave.now a.fields.now a.counts.now c.if-gave-bytes.false c.if-fields-bytes.false c.if-counts-lt3.true)
+    record { value = refl; gave_after = refl; fields_after = refl; counts_after = refl }
 
 pub returns : goal.returns
 returns c = let a = c.args in
