@@ -3,12 +3,11 @@
 use mathlib.Core.Path.{◌≡◌, refl, sym, ◌∙◌, ap, subst}
 use mathlib.Core.List.{List, [], ◌∷◌}
 use mathlib.Core.Option.{Option, none, some, none-ne-some, some-ne-none}
-use mathlib.Core.Bool.{Bool, true, false, not, true≢false, false≢true}
+use mathlib.Core.Bool.{Bool, true, false, not, true≢false}
 use Prim.Native.Nat.{ℕ}
 use lib.ListN.{length}
 use Rattle.esc_lanes.specs.declared.request.EscActuatorRequest.{EscActuatorRequest}
 use Rattle.esc_lanes.specs.declared.request.EscTelemetryUpdate.{EscTelemetryUpdate}
-use Rattle.base.specs.Maybe.{is}
 use Rattle.booking.specs.History.{Opening, Timed, Byte, Past, Since}
 use Rattle.booking.specs.Wire.{OnWire, byte, Frame, wire, latest, frame_at, timed}
 use Rattle.booking.specs.Booking.{booked_to, open_request, latest_frame, started_request, newly_started}
@@ -30,14 +29,8 @@ use Rattle.attribution.proofs.WireSteps.{wire-same, wire-more, clean-keeps, fram
 use Rattle.attribution.proofs.Within.{CleanGrants}
 use Rattle.attribution.proofs.Delivery.{delivery}
 use Rattle.attribution.proofs.Asked.{all-spent}
-use Rattle.attribution.proofs.CameFrom.{Stands, Covers, stands}
-
-covers : Covers while_no_fault
-covers l i k = go (faulted (past l)) refl
-  where
-    go : (f : Bool) → faulted (past l) ≡ f → not f ≡ true
-    go false f = refl
-    go true f = absurd (false≢true (ap is (sym (calm l i f)) ∙ k))
+use Rattle.attribution.proofs.CameFrom.{Stands, stands}
+use Rattle.attribution.proofs.WhileNoFault.{covers}
 
 -- the wire is clean where nothing is open, and where a frame is held
 record Silent (h : Past) : Type 0 where

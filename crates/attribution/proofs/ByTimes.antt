@@ -20,7 +20,8 @@ use Rattle.attribution.specs.Attributed.{AttributedByTimes}
 use Rattle.attribution.proofs.LawfulLog.{Lawful, opened, more, lawful-at}
 use Rattle.attribution.proofs.Attributed.{attributed}
 use Rattle.attribution.proofs.Heard.{earlier, stamped-byte}
-use Rattle.attribution.proofs.Timely.{not_earlier, TimelySince, Times, times-before, clock-holds, answer-now, timely}
+use Rattle.attribution.proofs.Rested.{not_earlier, Times, times-before, clock-holds, answer-now}
+use Rattle.attribution.proofs.Timely.{TimelySince, timely}
 
 -- a byte's origin is no earlier request
 late-enough : (l : Log) (e : LogEntry) → TimelySince l (since_in l) → Times (e ∷ l) → (n : ℕ) → n ≤ earlier l

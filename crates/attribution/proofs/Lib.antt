@@ -16,13 +16,16 @@ pub mod Delivery
 pub mod Asked
 pub mod CameFrom
 pub mod ByCuts
+pub mod WhileNoFault
 pub mod Attributed
 pub mod Clock
 pub mod Heard
+pub mod Rested
 pub mod Timely
 pub mod ByTimes
 pub mod Wide
 pub mod Pace
+pub mod PaceSteps
 pub mod NeverAnotherArm
 pub mod Lists
 pub mod Newest

@@ -15,7 +15,8 @@ use Rattle.attribution.proofs.Within.{Within, within}
 use Rattle.attribution.proofs.Delivery.{Delivered, booked-by-rule}
 use Rattle.attribution.proofs.ByCuts.{clean-grants}
 use Rattle.attribution.proofs.Wide.{wide_at}
-use Rattle.attribution.proofs.Pace.{Paced, paced}
+use Rattle.attribution.proofs.Pace.{Paced}
+use Rattle.attribution.proofs.PaceSteps.{paced}
 
 no-other-arm : (P : ℕ) (l : Log) (u : EscTelemetryUpdate) → Delivered l (past l) u → Within (taken_since l) (past l) → Paced P l (since_in l)
     → NoOtherArm l u

@@ -1,23 +1,20 @@
 -- The unit's period and boot delay: when a request is granted, every earlier one is P old. So a byte that comes in time is noise or of the
 -- latest request.
-use mathlib.Core.Path.{◌≡◌, refl, ◌∙◌}
-use mathlib.Core.List.{[], ◌∷◌}
+use mathlib.Core.Path.{◌≡◌, refl}
+use mathlib.Core.List.{◌∷◌}
 use mathlib.Core.Option.{Option, none, some}
-use mathlib.Core.Bool.{Bool, true, false, ◌&&◌, or-true}
+use mathlib.Core.Bool.{true, ◌&&◌, or-true}
 use Prim.Native.Nat.{ℕ, suc, ◌+◌, ◌-◌, ◌%◌, ◌^◌, ◌≤◌, ◌<◌}
 use native.Mathlib.Omega.{arith}
 use lib.ListN.{length}
-use lib.Dec.{eqb, leb, ltb}
-use borrow.Author.Tests.{leb-true, ltb-true, eq-eqb, ne_eqb}
-use Rattle.base.specs.Choice.{pick}
+use lib.Dec.{leb, ltb}
+use borrow.Author.Tests.{leb-true, ltb-true, eq-eqb}
 use Rattle.base.proofs.ByCases.{below_or_not}
 use Rattle.base.specs.Due.{due}
-use Rattle.esc_feedback.specs.declared.config.EscManagerConfig.{EscManagerConfig}
-use Rattle.esc_lanes.specs.declared.request.EscActuatorRequest.{EscActuatorRequest}
 use Rattle.base.specs.Maybe.{is}
 use Rattle.booking.specs.History.{Opening, Byte, Since}
 use Rattle.booking.specs.Turns.{last_queued}
-use Rattle.attribution.specs.Marks.{LogEntry, Log, since_in}
+use Rattle.attribution.specs.Marks.{LogEntry, Log}
 use Rattle.attribution.specs.Origin.{requests}
 use Rattle.attribution.specs.Since.{taken_since, each}
 use Rattle.attribution.specs.Tests.{of_origin}
@@ -27,11 +24,9 @@ use Rattle.attribution.specs.Pace.{asked_and_done_in_time, ticks, one_clock, spa
 use Rattle.attribution.specs.NeverAnotherArm.{no_other}
 use Rattle.base.proofs.Both.{and_left, and_right}
 use Rattle.attribution.proofs.Always.{now, before}
-use Rattle.attribution.proofs.Clock.{time-grows, time-now}
-use Rattle.attribution.proofs.LawfulLog.{Lawful}
-use Rattle.attribution.proofs.Steps.{Shows, Free, Step, plain, grants, takes, answers, ends, restarts}
-use Rattle.attribution.proofs.Along.{opening_of, along}
-use Rattle.attribution.proofs.Since.{requests-keep, since-same, since-more, since-grant, each_append}
+use Rattle.attribution.proofs.Clock.{time-grows}
+use Rattle.attribution.proofs.Steps.{Free}
+use Rattle.attribution.proofs.Since.{requests-keep, since-same}
 
 -- Due modulo 2^64 is plain subtraction on a clock that did not fall
 due-after : (t now d : ℕ) → t < 2 ^ 64 → t ≤ now → due t now d ≡ true → t + d ≤ now
@@ -41,15 +36,15 @@ due-after t now d w c e =
     omega arith
 
 -- the T of the latest 02 answered yes since the opening, or else the boot T
-abbrev from : Option ℕ → ℕ → ℕ
+abbrev pub from : Option ℕ → ℕ → ℕ
 from none boot = boot
 from (some t) boot = t
 
-abbrev from_of : Option Since → ℕ
+abbrev pub from_of : Option Since → ℕ
 from_of none = 0
 from_of (some s) = from (last_queued s.past) s.opening.boot
 
-abbrev opened_in : Option Since → Option Opening
+abbrev pub opened_in : Option Since → Option Opening
 opened_in none = none
 opened_in (some s) = some s.opening
 
@@ -59,17 +54,17 @@ pub record Given (P : ℕ) (l : Log) : Type 0 where
   pub wide : latest_t ticks l < 2 ^ 64
 
 pub record Paced (P : ℕ) (l : Log) (s : Option Since) : Type 0 where
-  set : spacious P (opened_in s) ≡ true
-  passed : from_of s ≤ latest_t ticks l
+  pub set : spacious P (opened_in s) ≡ true
+  pub passed : from_of s ≤ latest_t ticks l
   -- no request was granted after that
-  queued : (k : ℕ) → queued_at k l ≤ from_of s
+  pub queued : (k : ℕ) → queued_at k l ≤ from_of s
   -- all but the latest are P old
-  old : (k : ℕ) → suc k < length (requests l) → queued_at k l + P ≤ latest_t ticks l
+  pub old : (k : ℕ) → suc k < length (requests l) → queued_at k l + P ≤ latest_t ticks l
   -- each byte since the latest 02 is noise or of its request
   pub own : (k : ℕ) → length (requests l) ≡ suc k → each (no_other k) (taken_since l) ≡ true
 
 module _ (P : ℕ) (l : Log) (e : LogEntry) (a : Given P (e ∷ l)) where
-  given-before : Given P l
+  pub given-before : Given P l
   given-before =
       record {
         pace =
@@ -82,15 +77,15 @@ module _ (P : ℕ) (l : Log) (e : LogEntry) (a : Given P (e ∷ l)) where
         wide = omega (arith, a.wide, time-grows ticks l e);
       }
 
-  clock-holds : ticks e.seen ≡ true → latest_t ticks l ≤ e.seen.now
+  pub clock-holds : ticks e.seen ≡ true → latest_t ticks l ≤ e.seen.now
   clock-holds t = leb-true _ _ (rw t at (now one_clock l e a.pace.clock))
 
   module _ (s : Since) (i : Paced P l (some s)) where
-    abbrev next : Option Since
+    abbrev pub next : Option Since
     next = some (record { opening = s.opening; past = e.seen ∷ s.past })
 
     -- no grant
-    same-paced : e.seen.requests.granted ≡ none → ((k : ℕ) → length (requests l) ≡ suc k → each (no_other k) (taken_since (e ∷ l)) ≡ true)
+    pub same-paced : e.seen.requests.granted ≡ none → ((k : ℕ) → length (requests l) ≡ suc k → each (no_other k) (taken_since (e ∷ l)) ≡ true)
         → Paced P (e ∷ l) next
     unfolding last_queued queued_at
     same-paced g own =
@@ -109,11 +104,11 @@ module _ (P : ℕ) (l : Log) (e : LogEntry) (a : Given P (e ∷ l)) where
         at k = rw g
 
     -- neither grant nor byte
-    quiet-paced : e.seen.requests.granted ≡ none → e.seen.wire.byte ≡ none → Paced P (e ∷ l) next
+    pub quiet-paced : e.seen.requests.granted ≡ none → e.seen.wire.byte ≡ none → Paced P (e ∷ l) next
     quiet-paced g b = same-paced g (λ k n. rw (since-same l e g b) (i.own k n))
 
     -- a byte of an earlier request would be P late
-    byte-own : (b : Byte) → e.seen.wire.byte ≡ some b → (k : ℕ) → length (requests l) ≡ suc k → no_other k e.origin ≡ true
+    pub byte-own : (b : Byte) → e.seen.wire.byte ≡ some b → (k : ℕ) → length (requests l) ≡ suc k → no_other k e.origin ≡ true
     byte-own b x k n = go e.origin (rw x at (now (asked_and_done_in_time P) l e a.pace.asked))
       where
         late : latest_t ticks l ≤ e.seen.now
@@ -126,13 +121,8 @@ module _ (P : ℕ) (l : Log) (e : LogEntry) (a : Given P (e ∷ l)) where
             let soon : e.seen.now < queued_at j l + P = ltb-true _ _ (and_right (ltb j (length (requests l))) _ y) in
             below_or_not (suc j) (length (requests l)) (λ w. absurd (omega (arith, i.old j w, late))) (λ w. eq-eqb j k (omega arith))
 
-    byte-paced : e.seen.requests.granted ≡ none → (b : Byte) → e.seen.wire.byte ≡ some b → Paced P (e ∷ l) next
-    byte-paced g b x =
-        same-paced g
-        (λ k n. rw (since-more l e g b x) (each_append (no_other k) (taken_since l) _ ∙ rw (i.own k n, byte-own b x k n)))
-
     -- the period since the latest 02, or the boot delay since the opening
-    rested : Free s.opening s.past e.seen.now → latest_t ticks l ≤ e.seen.now → from_of (some s) + P ≤ e.seen.now
+    pub rested : Free s.opening s.past e.seen.now → latest_t ticks l ≤ e.seen.now → from_of (some s) + P ≤ e.seen.now
     rested f late = go (last_queued s.past) refl
       where
         delay : P ≤ s.opening.config.boot_delay_ms
@@ -147,68 +137,3 @@ module _ (P : ℕ) (l : Log) (e : LogEntry) (a : Given P (e ∷ l)) where
         go : (t : Option ℕ) → last_queued s.past ≡ t → from_of (some s) + P ≤ e.seen.now
         go none x = rw x (omega (arith, due-after _ _ _ (rw x at wide) (omega (arith, rw x at i.passed, late)) f.booted, delay))
         go (some t) x = rw x (omega (arith, due-after _ _ _ (rw x at wide) (omega (arith, rw x at i.passed, late)) (rw x at f.paced), period))
-
-    -- a grant: all before it are P old, and no byte came in since
-    grant-paced : (q : EscActuatorRequest) → Free s.opening s.past e.seen.now
-        → Shows e.seen (some (record { request = q; at = e.seen.now })) none none none false → Paced P (e ∷ l) next
-    unfolding last_queued queued_at requests
-    grant-paced q f sh =
-        record {
-          set = i.set;
-          passed = rw start (time-now ticks l e tick);
-          queued = λ k. rw (start, at k) (by-now k (eqb (length (requests l)) k));
-          old = λ k n. old-by k (rw sh.granted at n);
-          own = λ k n. rw (since-grant l e _ sh.granted);
-        }
-      where
-        tick : ticks e.seen ≡ true
-        tick = rw sh.granted (or-true (is e.seen.opening))
-
-        late : latest_t ticks l ≤ e.seen.now
-        late = clock-holds tick
-
-        start : from_of next ≡ e.seen.now
-        start = rw sh.granted
-
-        at : (k : ℕ) → queued_at k (e ∷ l) ≡ pick (eqb (length (requests l)) k) e.seen.now (queued_at k l)
-        at k = rw sh.granted
-
-        by-now : (k : ℕ) (b : Bool) → pick b e.seen.now (queued_at k l) ≤ e.seen.now
-        by-now k true = omega arith
-        by-now k false = omega (arith, i.queued k, i.passed, late)
-
-        old-by : (k : ℕ) → suc k < suc (length (requests l)) → queued_at k (e ∷ l) + P ≤ latest_t ticks (e ∷ l)
-        old-by k n =
-            rw (at k, ne_eqb (length (requests l)) k (λ x. omega (arith, x)))
-            (omega (arith, i.queued k, rested f late, time-now ticks l e tick))
-
-    step-paced : Step s.opening s.past e.seen → Paced P (e ∷ l) next
-    step-paced (plain sh) = quiet-paced sh.granted sh.byte
-    step-paced (grants q f sh) = grant-paced q f sh
-    step-paced (takes b x sh) = byte-paced sh.granted _ sh.byte
-    step-paced (answers q sh) = quiet-paced sh.granted sh.byte
-    step-paced (ends t sh) = quiet-paced sh.granted sh.byte
-    step-paced (restarts c f w sh) = quiet-paced sh.granted sh.byte
-
--- an opening: its boot T is no less than any before
-module _ (P : ℕ) (l : Log) (c : EscManagerConfig) (t : ℕ) (o : Option ℕ) (a : Given P (opening_of c t o ∷ l)) (s : Option Since) (i : Paced P l s) where
-  opening-paced : Paced P (opening_of c t o ∷ l) (some (record { opening = record { config = c; boot = t }; past = [] }))
-  unfolding last_queued queued_at requests
-  opening-paced =
-      record {
-        set = now (settings P) l (opening_of c t o) a.pace.set;
-        passed = time-now ticks l (opening_of c t o) refl;
-        queued = λ k. omega (arith, i.queued k, i.passed, clock-holds P l (opening_of c t o) a refl);
-        old = λ k n. omega (arith, i.old k n, time-grows ticks l (opening_of c t o));
-        own = λ k n. rw (since-same l (opening_of c t o) refl refl) (i.own k n);
-      }
-
-paced-empty : (P : ℕ) → Paced P [] none
-unfolding queued_at requests latest_t
-paced-empty P = record { set = refl; passed = omega arith; queued = λ k. omega arith; old = λ k n. absurd (omega arith); own = λ k n. absurd (omega arith) }
-
-pub paced : (P : ℕ) (l : Log) → Lawful l → Given P l → Paced P l (since_in l)
-paced P =
-    along (λ l s. Given P l → Paced P l s) (λ a. paced-empty P)
-    (λ l c t o i a. opening-paced P l c t o a (since_in l) (i (given-before P l (opening_of c t o) a)))
-    (λ l s e k x st i a. step-paced P l e a s (i (given-before P l e a)) st)

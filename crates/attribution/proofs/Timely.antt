@@ -9,7 +9,7 @@ use native.Mathlib.Omega.{arith}
 use native.Mathlib.Nat.{one-le-pow, le-mul_of_pos_right}
 use lib.ListN.{length}
 use lib.Dec.{eqb, leb}
-use borrow.Author.Tests.{leb-true, leb-false, ltb-true, eqb-true, ne_eqb}
+use borrow.Author.Tests.{leb-true, eqb-true, ne_eqb}
 use Rattle.base.specs.Choice.{pick}
 use Rattle.esc_feedback.specs.declared.config.EscManagerConfig.{EscManagerConfig}
 use Rattle.esc_feedback.specs.declared.answer.EscManagerTimeout.{EscManagerTimeout}
@@ -18,12 +18,10 @@ use Rattle.esc_lanes.specs.declared.request.EscTelemetryUpdate.{EscTelemetryUpda
 use Rattle.booking.specs.History.{Opening, Byte, Past, Since}
 use Rattle.booking.specs.Faults.{faulted, quiet_since, retries}
 use Rattle.booking.specs.Claims.{past_of}
-use Rattle.attribution.specs.Marks.{LogEntry, Log, since_in, past}
+use Rattle.attribution.specs.Marks.{LogEntry, Log, since_in}
 use Rattle.attribution.specs.Origin.{requests, at_recovery, at_opening}
-use Rattle.attribution.specs.Tests.{always}
 use Rattle.attribution.specs.Clock.{latest_t}
-use Rattle.attribution.specs.Times.{stamped, clock_at, byte_at, last_heard, quiet_time, quiet_of, steady_clock, prompt, waits_for, patient_opening}
-use Rattle.attribution.proofs.Always.{now, before}
+use Rattle.attribution.specs.Times.{stamped, clock_at, byte_at, last_heard, quiet_of, waits_for}
 use Rattle.attribution.proofs.LawfulLog.{Lawful}
 use Rattle.attribution.proofs.Steps.{Shows, Step, plain, grants, takes, answers, ends, restarts}
 use Rattle.attribution.proofs.Since.{requests-keep}
@@ -43,29 +41,11 @@ use Rattle.attribution.proofs.Heard.{
   fault-keeps,
   quiet-grows,
 }
-
--- nothing was heard after the quiet start, nor within the quiet time before a recovery or an opening of the requests before it
-pub record Timely (l : Log) (h : Past) (quiet : ℕ) : Type 0 where
-  pub granted : earlier l ≤ length (requests l)
-  pub heard : (k : ℕ) → last_heard k l ≤ clock_at l
-  pub waits : faulted h ≡ true → (k : ℕ) → last_heard k l ≤ quiet_since h
-  pub rested : faulted h ≡ false → (k : ℕ) → k < earlier l → last_heard k l + quiet ≤ clock_at l
-
--- a byte taken in while no fault stands is not of a request that has rested
-module _ (l : Log) (h : Past) (quiet now : ℕ) (i : Timely l h quiet) (f : faulted h ≡ false) (c : clock_at l ≤ now) where
-  pub not_earlier : (k : ℕ) → now < last_heard k l + quiet → earlier l ≤ k
-  not_earlier k p = go (leb (earlier l) k) refl
-    where
-      go : (t : Bool) → leb (earlier l) k ≡ t → earlier l ≤ k
-      go true t = leb-true _ _ t
-      go false t =
-          let r = i.rested f k (leb-false _ _ t) in
-          absurd (omega arith)
+use Rattle.attribution.proofs.Rested.{Timely, Prompts, not_earlier, Times, times-before, clock-holds, answer-now, wait-now}
 
 module _ (o : Opening) (l : Log) (h : Past) (e : LogEntry) (i : Timely l h o.config.recovery_quiet_ms)
     (clock : stamped e.seen ≡ true → clock_at l ≤ e.seen.now)
-    (prompts : (b : Byte) → e.seen.wire.byte ≡ some b → faulted h ≡ false
-    → (k : ℕ) → e.origin ≡ some k → e.seen.now < last_heard k l + o.config.recovery_quiet_ms) where
+    (prompts : Prompts l h e o.config.recovery_quiet_ms) where
   abbrev quiet : ℕ
   quiet = o.config.recovery_quiet_ms
 
@@ -238,31 +218,6 @@ timely-new l s i c t o w =
         → last_heard k l + c.recovery_quiet_ms ≤ max (clock_at l) t
     rested-by k x true b y = absurd (omega (arith, eqb-true (length (requests l)) 0 b))
     rested-by k x false b y = omega (arith, i.heard k, leb-true (clock_at l + c.recovery_quiet_ms) t y)
-
--- the three on times, of one log
-pub record Times (l : Log) : Type 0 where
-  pub clock : always steady_clock l ≡ true
-  pub prompts : always prompt l ≡ true
-  pub reopening : always patient_opening l ≡ true
-
-module _ (l : Log) (e : LogEntry) (t : Times (e ∷ l)) where
-  pub times-before : Times l
-  times-before =
-      record {
-        clock = before steady_clock l e t.clock;
-        prompts = before prompt l e t.prompts;
-        reopening = before patient_opening l e t.reopening;
-      }
-
-  pub clock-holds : stamped e.seen ≡ true → clock_at l ≤ e.seen.now
-  clock-holds m = leb-true _ _ (rw m at (now steady_clock l e t.clock))
-
-  pub answer-now : (b : Byte) → e.seen.wire.byte ≡ some b → faulted (past l) ≡ false
-      → (k : ℕ) → e.origin ≡ some k → e.seen.now < last_heard k l + quiet_time l
-  answer-now b x f k o = ltb-true _ _ (rw (x, f, o) at (now prompt l e t.prompts))
-
-  wait-now : waits_for l e.seen.opening ≡ true
-  wait-now = now patient_opening l e t.reopening
 
 timely-start : Timely [] [] 0
 unfolding faulted requests at_recovery at_opening last_heard latest_t
