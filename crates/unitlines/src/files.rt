@@ -20,7 +20,7 @@ fn answer(
 ) -> bool
     requires { longest_line ≤ length out.old }
 {
-    let ended = run(rt, from, input, out);
+    let ended = run(from, &mut rt.stdout(), input, out);
     match ended {
         Ended::Answered => true,
         Ended::NotRead => {

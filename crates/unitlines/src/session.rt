@@ -1,12 +1,14 @@
-// One session: lines of records from a reader, a line with the answer to each on standard output.
+// One session: lines of records from a reader, a line with the answer to each to a writer.
 // It only reads and writes; what is printed is the stream's.
-ghost use Rattle.std.specs.Prelude.{◌≡◌, true, ◌≤◌, length};
-ghost use Rattle.unit_text.specs.Stream.{after, longest_line};
+ghost use Rattle.std.specs.Prelude.{◌≡◌, true, ◌≤◌, ◌<◌, length, IfSome};
+ghost use Rattle.std.specs.Io.KnownBytes.{Appends};
+ghost use Rattle.unit_text.specs.Session.{session_text};
+ghost use Rattle.unit_text.specs.Stream.{after, longest_line, printed, printed_at_end};
 ghost use Rattle.unit_text.specs.Streams.{streamed};
 
 use crate::output::{write_end, write_printed};
 use base::Handed;
-use std::io::Read;
+use std::io::{Read, Write};
 use unit_text::Stream;
 
 // The stream after a chunk, and whether all that it printed was written.
@@ -17,9 +19,10 @@ struct Pumped {
 }
 
 // Feeds all of a chunk to a stream.
-fn pump(rt: &impl Print, stream: Stream, chunk: &[u8], out: &mut [u8]) -> Pumped
+fn pump<W: Write>(to: &mut W, stream: Stream, chunk: &[u8], out: &mut [u8]) -> Pumped
     requires { longest_line ≤ length out.old }
-    ensures { result.ok ≡ true → streamed result.stream ≡ after (streamed stream) chunk.now }
+    ensures stream_after { result.ok ≡ true → streamed result.stream ≡ after (streamed stream) chunk.now }
+    ensures written { result.ok ≡ true → Appends (W.contents to.old) (W.contents to.new) (printed (streamed stream) chunk.now) }
 {
     let mut stream = stream;
     let mut used: usize = 0;
@@ -30,7 +33,7 @@ fn pump(rt: &impl Print, stream: Stream, chunk: &[u8], out: &mut [u8]) -> Pumped
         let written = fed.written;
         stream = fed.stream;
         used += fed.used;
-        if !write_printed(rt, before, &chunk[from..used], &out[..written]) {
+        if !write_printed(to, before, &chunk[from..used], &out[..written]) {
             return Pumped { stream, ok: false };
         }
     }
@@ -38,12 +41,14 @@ fn pump(rt: &impl Print, stream: Stream, chunk: &[u8], out: &mut [u8]) -> Pumped
 }
 
 // Writes what the end of input prints.
-fn finish(rt: &impl Print, stream: Stream, out: &mut [u8]) -> bool {
+fn finish<W: Write>(to: &mut W, stream: Stream, out: &mut [u8]) -> bool
+    ensures { result ≡ true → Appends (W.contents to.old) (W.contents to.new) (printed_at_end (streamed stream)) }
+{
     let end = stream.finish(out);
     let Handed::Written(n) = end else {
         return false;
     };
-    write_end(rt, stream, &out[..n])
+    write_end(to, stream, &out[..n])
 }
 
 // How a session ended.
@@ -55,9 +60,17 @@ pub(crate) enum Ended {
 }
 
 // Reads to the end of input. A loop has to end, and nothing says that the input does: the count of
-// reads ends it, and no input is that long.
-pub(crate) fn run(rt: &impl Print, from: &mut impl Read, input: &mut [u8], out: &mut [u8]) -> Ended
+// reads ends it, and no input is that long. Where the bytes that are read and written are known, those written are the text
+// of the session that those read are.
+pub(crate) fn run<R: Read, W: Write>(
+    from: &mut R,
+    to: &mut W,
+    input: &mut [u8],
+    out: &mut [u8],
+) -> Ended
     requires { longest_line ≤ length out.old }
+    ensures { 0 < length input.old → result ≡ Ended.Answered → IfSome (R.remaining from.old)
+        (λ text. Appends (W.contents to.old) (W.contents to.new) (session_text text)) }
 {
     let mut stream = Stream::new();
     for _ in 0..u64::MAX {
@@ -65,12 +78,12 @@ pub(crate) fn run(rt: &impl Print, from: &mut impl Read, input: &mut [u8], out: 
             return Ended::NotRead;
         };
         if n == 0 {
-            if !finish(rt, stream, out) {
+            if !finish(to, stream, out) {
                 return Ended::NotWritten;
             }
             return Ended::Answered;
         }
-        let pumped = pump(rt, stream, &input[..n], out);
+        let pumped = pump(to, stream, &input[..n], out);
         if !pumped.ok {
             return Ended::NotWritten;
         }
