@@ -6,6 +6,7 @@ folder that the program is run in there are a few files more, and names that loo
 
     python3 tests/arguments.py crates/unitlines/out/unitlines
 """
+import os
 import re
 import resource
 import subprocess
@@ -102,13 +103,18 @@ def help_text(program, folder):
 
 
 def streams(program, folder):
-    """A standard input that is closed, an output that can't be written, and few descriptors for many files."""
+    """A standard input that is closed, an output that can't be written or whose reader has gone, few descriptors for many files."""
     closed = ["-c", 'exec "$0" - cut <&-', program]
     expect(closed, run("sh", closed, cwd=folder), (REFUSED, said("standard input: could not be read")))
     for arguments in ([SESSION, "missing", SESSION], ["--help"], ["--version"]):
         with open("/dev/full", "wb") as full:
             _, errors = run(program, arguments, cwd=folder, stdout=full)
         expect(arguments, errors, said("standard output: could not be written"))
+    left, gone = os.pipe()
+    os.close(left)
+    _, errors = run(program, [SESSION, SESSION], cwd=folder, stdout=gone)
+    os.close(gone)
+    expect("a reader that has gone", errors, said("standard output: could not be written"))
     few = lambda: resource.setrlimit(resource.RLIMIT_NOFILE, (8, 8))
     many = ["cut", "."] * 100
     expect(many, run(program, many, cwd=folder, preexec_fn=few), (REFUSED * 100, said(".: could not be read") * 100))

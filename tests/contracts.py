@@ -5,8 +5,8 @@ Every public function has a comment that says what it is for. In a library it as
 states its result by an equation, `result ≡ ..` or of what `result` stands for, and what each lent buffer holds afterwards by
 another, `buffer.new ≡ ..`; only the capture search's choice is free. A crate that is a part of others is theirs alone: no
 further crate's code names it, and its functions may ask what each call of them proves. Every file of specs/ and proofs/ opens
-with a comment that says what it is or why it is true, and has no line of more than 160 characters, imports excepted, which the
-layout keeps on one line or puts a name to a line. What specs/ define, they define once: one word, one meaning.
+with a comment that says what it is or why it is true, and has no line of more than 160 characters. What specs/ define, they define
+once: one word, one meaning.
 """
 import re
 import sys
@@ -18,7 +18,6 @@ FUNCTION = re.compile(r'^ *pub (?:const |unsafe |extern "C" )*fn (\w+)', re.M)
 BRACE = re.compile(r"(?:^\s*(requires|ensures)\b[*]?\s*\w*\s*)?\{", re.M)
 DEFINED = re.compile(r"^(?:unfoldable |abbrev )?pub (?:record |data )?(?!use |mod )([^\s:({]+)", re.M)
 WIDEST = 160
-IMPORT = re.compile(r"(?:unfoldable |pub )*use ")
 # what a definition of specs/ says of the result where no equation could
 FREE = {"find_frame": "Searched", "esc_find_frame": "Searched"}
 # crates that are a part of others
@@ -110,7 +109,7 @@ def layout(path):
     text = path.read_text()
     if not text.startswith("-- "):
         yield f"{path}: no comment at its top"
-    if any(len(line) > WIDEST for line in text.split("\n") if not IMPORT.match(line)):
+    if max(map(len, text.split("\n"))) > WIDEST:
         yield f"{path}: a line of more than {WIDEST} characters"
 
 

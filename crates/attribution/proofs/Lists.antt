@@ -155,6 +155,6 @@ by-rule P ms = subst (λ (h : MarkedHistory). P (log_of h)) (sym (marked-by-rule
 pub row : (ms : List Marked)
     → Row (log_after ms) (wiring_fails (rule_log ms)) (timing_fails (rule_log ms)) (cutting_fails (rule_log ms)) (booked (rule_log ms)) (arms (rule_log ms))
 row ms =
-    by-rule (λ (l : Log). Row l (wiring_fails (rule_log ms)) (timing_fails (rule_log ms)) (cutting_fails (rule_log ms)) (booked (rule_log ms))
-    (arms (rule_log ms))) ms
+    by-rule (λ (l : Log). Row l (wiring_fails (rule_log ms)) (timing_fails (rule_log ms)) (cutting_fails (rule_log ms))
+    (booked (rule_log ms)) (arms (rule_log ms))) ms
     (record { wires = refl; times = refl; cuts = refl; lanes = refl; sent = refl })

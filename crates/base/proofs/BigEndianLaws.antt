@@ -1,5 +1,7 @@
 -- Numbers highest byte first: their bytes, and writing these over a buffer one after the other.
-use Rattle.std.proofs.Common.{◌≡◌, ℕ, zero, suc, ◌+◌, ◌*◌, ◌/◌, ◌%◌, ◌^◌, ◌<◌, ◌≤◌, List, [], ◌∷◌, ◌++◌, length, get_or, take, drop, set, sym, refl, ◌∙◌, append_assoc, add-zero, add_assoc, add-suc, zero-add, add-one, arith, length-append, length-drop, length-set, length-take, get_or-drop, take-suc, drop-drop, take_at}
+use Rattle.std.proofs.Common.{◌≡◌, ℕ, zero, suc, ◌+◌, ◌*◌, ◌/◌, ◌%◌, ◌^◌, ◌<◌, ◌≤◌, List, [], ◌∷◌, ◌++◌, length, get_or, take, drop, set, sym, refl, ◌∙◌}
+use Rattle.std.proofs.Common.{append_assoc, add-zero, add_assoc, add-suc, zero-add, add-one, arith, length-append, length-drop, length-set, length-take}
+use Rattle.std.proofs.Common.{get_or-drop, take-suc, drop-drop, take_at}
 use lib.Seq.{drop-append-add, set_split}
 use Rattle.base.specs.BigEndian.{number_at, bytes_of, overwrite}
 

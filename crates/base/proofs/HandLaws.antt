@@ -1,5 +1,6 @@
 -- Bytes handed over in a lent output, where they fit and where they do not; and copying them.
-use Rattle.std.proofs.Common.{◌≡◌, ℕ, ◌+◌, ◌<◌, ◌≤◌, min, List, [], ◌∷◌, length, get_or, take, set, sym, ap, ◌∙◌, add-one, arith, length-take-le, take_all, take-suc, le-leb}
+use Rattle.std.proofs.Common.{◌≡◌, ℕ, ◌+◌, ◌<◌, ◌≤◌, min, List, [], ◌∷◌, length, get_or, take, set, sym, ap, ◌∙◌, add-one, arith, length-take-le, take_all}
+use Rattle.std.proofs.Common.{take-suc, le-leb}
 use borrow.Author.Tests.{lt-leb}
 use Rattle.base.specs.Reply.{accepted, refused}
 use Rattle.base.specs.BigEndian.{overwrite}

@@ -1,5 +1,6 @@
 -- Runs of bytes put one after the other are one run; and a number may be stored from its last byte back.
-use Rattle.std.proofs.Common.{◌≡◌, ℕ, zero, suc, ◌+◌, ◌-◌, ◌/◌, ◌%◌, ◌<◌, ◌≤◌, List, [], ◌∷◌, ◌++◌, length, drop, set, sym, refl, ◌∙◌, append_assoc, le_of_suc-le-suc, not-suc-le-zero, add-zero, add-suc, arith, length-append, take-append-drop}
+use Rattle.std.proofs.Common.{◌≡◌, ℕ, zero, suc, ◌+◌, ◌-◌, ◌/◌, ◌%◌, ◌<◌, ◌≤◌, List, [], ◌∷◌, ◌++◌, length, drop, set, sym, refl, ◌∙◌, append_assoc}
+use Rattle.std.proofs.Common.{le_of_suc-le-suc, not-suc-le-zero, add-zero, add-suc, arith, length-append, take-append-drop}
 use lib.Seq.{take-set-le}
 use Rattle.base.specs.BigEndian.{bytes_of, overwrite}
 use Rattle.base.proofs.BigEndianLaws.{overwrite-append}

@@ -12,7 +12,7 @@ use esc_lanes::{EscOutput, EscSamples, EscTelemetryUpdate, StoredObservation};
 #[derive(Clone, Copy)]
 pub struct Books {
     samples: EscSamples,
-    // Whether there is an idle check: an enum can't hold one, since it holds an array.
+    // Whether there is an idle check.
     checking: bool,
     idle: EscIdleQualification,
     figures: Figures,

@@ -34,7 +34,7 @@ impl EscManagerConfig {
     }
 }
 
-// `ESC_REQUEST_EXPIRY_MS` with its value stated, since a contract can't name a constant.
+// `ESC_REQUEST_EXPIRY_MS` with its value stated, for contracts.
 pub fn esc_request_expiry_ms() -> u32
     ensures { result ≡ 20 }
 {

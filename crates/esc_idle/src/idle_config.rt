@@ -48,7 +48,7 @@ pub const DSHOT_IDLE_QUALIFICATION_CONFIG: EscIdleQualificationConfig = EscIdleQ
     required_consecutive_samples: 3,
 };
 
-// `DSHOT_PREARM_STOP_HOLD_MS` with its value stated, since a contract can't name a constant.
+// `DSHOT_PREARM_STOP_HOLD_MS` with its value stated, for contracts.
 pub fn dshot_prearm_stop_hold_ms() -> u32
     ensures { result ≡ 100 }
 {

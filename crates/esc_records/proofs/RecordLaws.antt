@@ -2,7 +2,7 @@
 use mathlib.Core.Path.{◌≡◌, refl}
 use mathlib.Core.Bool.{Bool, true, false}
 use mathlib.Core.List.{List, [], ◌∷◌}
-use Prim.Native.Nat.{ℕ, zero, suc, ◌<◌, ◌≤◌}
+use Prim.Native.Nat.{ℕ, ◌<◌, ◌≤◌}
 use native.Mathlib.Omega.{arith}
 use lib.Dec.{eqb, eqb→eq}
 use lib.ListN.{length, get_or, replicate}
@@ -21,15 +21,6 @@ laneless k _ = pick (eqb k 0x02) true (pick (eqb k 0x03) true (pick (eqb k 0x0d)
 pub no-lane : (k : ℕ) → k ≤ last_kind → (k ≡ 0x02 → ⊥) → (k ≡ 0x03 → ⊥) → (k ≡ 0x0d → ⊥) → (k ≡ 0x0e → ⊥) → lane_place k ≡ 0
 unfolding laneless
 no-lane k h a b c d = eqb→eq _ 0 (rw (ne_eqb _ _ a, ne_eqb _ _ b, ne_eqb _ _ c, ne_eqb _ _ d) at (at laneless (replicate 15 0) tt k (omega arith)))
-
--- a number that is none of the first n
-abbrev Past : ℕ → ℕ → Type 0
-Past zero k = Unit {0}
-Past (suc n) k = Past n k × (k ≡ n → ⊥)
-
-pub past : (n k : ℕ) → Past n k → n ≤ k
-past zero k p = omega arith
-past (suc n) k p = let l : n ≤ k = past n k p.0 in let e : k ≡ n → ⊥ = p.1 in omega arith
 
 -- the one kind without fields that comes after them
 pub else-report : (k : ℕ) → 0x0c ≤ k → k ≤ last_kind → (k ≡ 0x0d → ⊥) → (k ≡ 0x0e → ⊥) → k ≡ 0x0c

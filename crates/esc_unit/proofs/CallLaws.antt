@@ -32,8 +32,8 @@ told true n = refl
 told false n = refl
 
 -- the reply to the writing tells whether there was room
-room-told : (a : Answer) (out : List ℕ) (q : Reply ℕ) → q ≡ handed_reply (answer_bytes a) (length out) → leb (length (answer_bytes a)) (length out)
-    ≡ is_accepted q
+room-told : (a : Answer) (out : List ℕ) (q : Reply ℕ) → q ≡ handed_reply (answer_bytes a) (length out)
+    → leb (length (answer_bytes a)) (length out) ≡ is_accepted q
 unfolding handed_reply
 room-told a out q w = sym (ap is_accepted w ∙ told (leb (length (answer_bytes a)) (length out)) _)
 

@@ -39,9 +39,8 @@ pub record Feeding (s : Streamed) (chunk out₀ : List ℕ) (unit : Unit) (line 
   pub rest : taken s (length out₀) chunk ≡ used + taken (after s (take used chunk)) (length out₀ - written) (drop used chunk)
 
 -- at first
-pub feeding-none : (unit : Unit) (line : List ℕ) (held : ℕ) (chunk out bytes : List ℕ) → length line ≡ most_held → held ≤ most_held → length bytes
-    ≡ longest_record
-    → Feeding (record { unit = unit; line = take held line }) chunk out unit line held bytes out 0 0
+pub feeding-none : (unit : Unit) (line : List ℕ) (held : ℕ) (chunk out bytes : List ℕ) → length line ≡ most_held → held ≤ most_held
+    → length bytes ≡ longest_record → Feeding (record { unit = unit; line = take held line }) chunk out unit line held bytes out 0 0
 unfolding after printed
 feeding-none unit line held chunk out bytes l h b =
     let all : length out - 0 ≡ length out = omega arith in

@@ -1,5 +1,4 @@
-// The parser's two calls that change it in place, on a parser of this crate's own: by value, so that what
-// calls these needs no proof by hand.
+// The parser's two calls that change it in place, on a parser of this crate's own.
 ghost use Rattle.std.specs.Prelude.{◌≡◌};
 ghost use Rattle.blheli_telemetry.specs.Parser.{push_of, reset_of};
 

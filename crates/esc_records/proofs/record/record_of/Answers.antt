@@ -1,9 +1,10 @@
 -- Each kind has its fields at their places, and each number fits its type.
-use Rattle.std.proofs.Common.{arith, ◌≡◌, ◌≤◌}
+use Rattle.std.proofs.Common.{arith, ◌≤◌, ◌≢◌}
 use Rattle.esc_records.specs.Record.{record_of}
 use Rattle.esc_records.specs.Fields.{layouts, field_widths}
 use Rattle.esc_records.proofs.ReaderLaws.{one_byte}
 use Rattle.esc_records.proofs.FieldLaws.{known, kind_number, numbers_of-fields}
+use Rattle.esc_records.proofs.RecordLaws.{else-report}
 use Rattle.esc_records.proofs.record.record_of.Goals as goal
 
 pub overflow_cast-result : goal.overflow_cast-result
@@ -135,6 +136,6 @@ returns-in-14 c = λ s w r. let f = c.args.fields in let e = c.in-14.is in
 pub returns-in_default : goal.returns-in_default
 unfolding record_of
 returns-in_default c = λ s w r. let f = c.args.fields in
-    let small : f.kind ≤ 14 = known s f w r in
-    let report : f.kind ≡ 0x0c = omega arith in
-    rw (kind_number s f w r 0x0c report)
+    let past : 0x0c ≤ f.kind = omega arith in
+    let others : (f.kind ≢ 0x0d) × (f.kind ≢ 0x0e) = (omega arith, omega arith) in
+    rw (kind_number s f w r 0x0c (else-report f.kind past (known s f w r) others.0 others.1))

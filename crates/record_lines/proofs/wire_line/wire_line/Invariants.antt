@@ -1,4 +1,4 @@
--- The time is the number of the bytes that its digits spell; the other characters are tested one by one.
+-- So far the time is the number of the bytes that its digits spell.
 use Prim.Native.Nat.{◌-◌}
 use Rattle.record_lines.proofs.WireRead.{Timed}
 use Rattle.record_lines.proofs.wire_line.wire_line.Given as goal

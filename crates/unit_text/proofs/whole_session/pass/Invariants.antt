@@ -1,4 +1,4 @@
--- What was passed over is the session so far; it is counted, and copied where it is to be.
+-- What was passed over is the session so far; what is left of the text falls.
 use Prim.Native.Nat.{◌-◌}
 use lib.ListN.{length}
 use Rattle.unit_text.specs.Streams.{streamed}

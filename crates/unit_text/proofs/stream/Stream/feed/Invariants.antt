@@ -1,4 +1,4 @@
--- Every turn answers the next line of the chunk, in place where a byte is only collected; each kind of a flight by its own law.
+-- The lines of the chunk so far are answered; what is left of the chunk falls.
 use Prim.Native.Nat.{◌-◌}
 use lib.ListN.{length, take}
 use Rattle.unit_text.proofs.Feeding.{Feeding}
