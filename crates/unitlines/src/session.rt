@@ -91,3 +91,31 @@ pub(crate) fn run<R: Read, W: Write>(
     }
     Ended::NotRead
 }
+
+#[cfg(test)]
+mod tests {
+    use super::*;
+    use std::test::Fail;
+
+    // The session of docs/session.txt, of a reader and a writer whose bytes are known. Seven bytes are read at a time, so
+    // that nearly each line goes on in the next read.
+    #[test]
+    fn answers_in_small_reads(rt: HostRuntime) -> Result<(), Fail> {
+        let mut from: &[u8] = b"0000000000000000000000001400000064000001f40000000000000000\n\
+            010000000000000000\n\
+            0200000000000000000000000000\n\
+            0200000000000000000000000000\n\
+            \n\
+            040000000000000014\n\
+            07000000000000000207\n\
+            07000000000000000208\n";
+        let mut to = Vec::new(rt.alloc());
+        let mut input = [0u8; 7];
+        let mut out = [0u8; 256];
+        let ended = run(&mut from, &mut to, &mut input, &mut out);
+        assert!(rt; matches!(ended, Ended::Answered));
+        let answers = b"00\n00010000000000\n0001\n0000\n04\n00010000000000\n0000\n0001\n";
+        assert_eq!(rt; to.as_slice(), answers.as_slice());
+        Ok(())
+    }
+}
