@@ -4,7 +4,7 @@
 Every public function has a comment that says what it is for. In a library it asks nothing by a `requires`, and
 states its result by an equation, `result ≡ ..` or of what `result` stands for, and what each lent buffer holds afterwards by
 another, `buffer.new ≡ ..`; only the capture search's choice is free. A crate that is a part of others is theirs alone: no
-further crate's code names it, and its functions may ask what each call of them proves. Every file of specs/ and proofs/ opens
+further crate's code names it, and printing a line asks for room, which each call of it proves. Every file of specs/ and proofs/ opens
 with a comment that says what it is or why it is true, and has no line of more than 160 characters. What specs/ define, they define
 once: one word, one meaning.
 """
@@ -22,6 +22,8 @@ WIDEST = 160
 FREE = {"find_frame": "Searched", "esc_find_frame": "Searched"}
 # crates that are a part of others
 PARTS = {"hex_lines": ["record_lines", "unit_text"], "record_lines": ["unit_text"]}
+# what of them has a `requires`
+ASKS = {"print_line"}
 
 
 def closed(text, at):
@@ -78,10 +80,14 @@ def states(name, fact):
     return bool(of_result) and (of_result[2] == "≡" or fact.startswith(FREE.get(name, "\0") + " "))
 
 
+def demands(path):
+    for name, _, clauses, _ in functions(path):
+        if name not in ASKS and any(kind == "requires" for kind, _ in clauses):
+            yield f"{path}: pub fn {name} has a `requires`"
+
+
 def contracts(path):
     for name, signature, clauses, _ in functions(path):
-        if any(kind == "requires" for kind, _ in clauses):
-            yield f"{path}: pub fn {name} has a `requires`"
         ensured = [fact for kind, clause in clauses if kind == "ensures" for fact in facts(clause)]
         if "->" in signature and not any(states(name, fact) for fact in ensured):
             yield f"{path}: pub fn {name} does not state its result by an equation"
@@ -127,6 +133,7 @@ def meanings(paths):
 def main():
     libraries = [crate for crate in CRATES.iterdir() if crate.name not in PARTS and not (crate / "src/main.rt").exists()]
     faults = [fault for crate in libraries for path in crate.glob("src/**/*.rt") for fault in contracts(path)]
+    faults += [fault for crate in [*libraries, *(CRATES / part for part in PARTS)] for path in crate.glob("src/**/*.rt") for fault in demands(path)]
     faults += [fault for path in CRATES.glob("*/src/**/*.rt") for fault in [*purposes(path), *strangers(path)]]
     faults += [fault for part in ("specs", "proofs") for path in CRATES.glob(f"*/{part}/**/*.antt") for fault in layout(path)]
     faults += meanings(CRATES.glob("*/specs/**/*.antt"))

@@ -15,7 +15,7 @@ USE = re.compile(r"^(?:unfoldable )?(pub )?use ([^\s{;]+?)(?:\.\{([^}]*)\}| as (
 ANY_USE = re.compile(r"^\s*(?:unfoldable |pub )*use .*", re.M)
 TOKEN = re.compile(r'--[^\n]*|\{-.*?-\}|"(?:\\.|[^"\\])*"|«[^»]*»|[^\s(){}.;,@"«»]+|[(){}.;,@]', re.S)
 GHOST_USE = re.compile(r"^\s*ghost (use [^;]*);", re.M)
-CLAUSE = re.compile(r"\b(?:requires|ensures|ghost)\b[*]?(?:\s+\w+:?)?\s*\{")
+CLAUSE = re.compile(r"\b(?:requires|ensures|ghost)\b[*]?(?:\s+\w+:?)?(?:\s*=)?\s*\{")
 BRACKET = re.compile(r"⟦([^⟧]*)⟧")
 RUST_USE = re.compile(r"^\s*(pub(?:\(\w+\))? )?use ([^;]*);", re.M)
 # comments, texts and characters

@@ -1,9 +1,7 @@
 -- Maps that are refused, and document 01's 'Cases for the proved table' that speak of the speed: of the rules themselves, by computation.
-use mathlib.Core.Path.{◌≡◌, refl}
-use mathlib.Core.List.{[], ◌∷◌}
-use Prim.Native.Nat.{ℕ}
+use Rattle.std.proofs.Common.{◌≡◌, ℕ, [], ◌∷◌, refl}
 use Rattle.base.specs.Reply.{accepted, refused}
-use Rattle.airframe.specs.Once.{one_for, times, each_once}
+use Rattle.airframe.specs.Once.{each_once}
 use Rattle.airframe.specs.BoardMap.{read_map}
 use Rattle.airframe.specs.Speed.{speed_of}
 
@@ -14,7 +12,7 @@ pub record MapCases : Type 0 where
   pub three-bytes : read_map (1 ∷ 1 ∷ 1 ∷ []) ≡ refused 5
 
 pub map_cases : MapCases
-unfolding one_for times each_once read_map
+unfolding each_once read_map
 map_cases = record { motor-twice = refl; motor-five = refl; three-bytes = refl }
 
 pub record SpeedCases : Type 0 where

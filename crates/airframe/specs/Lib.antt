@@ -1,6 +1,5 @@
--- Read in this order: motors, lanes, each number once, the board map made of these; speed stands alone.
+-- Read in this order: motors, each number once, the board map made of these; speed stands alone.
 pub mod Motor
-pub mod Lane
 pub mod Once
 pub mod BoardMap
 pub mod Speed

@@ -3,12 +3,10 @@
 #![tactic(auto)]
 
 mod board_map;
-mod lane;
 mod motor;
 mod once;
 mod speed;
 
-pub use board_map::{BoardMap, BoardMapRead};
-pub use lane::{OutputRead, output_of_lane};
-pub use motor::{Motor, MotorNumber, MotorRead};
-pub use speed::{MotorSpeed, motor_speed};
+pub use board_map::BoardMap;
+pub use motor::{Motor, MotorNumber};
+pub use speed::motor_speed;

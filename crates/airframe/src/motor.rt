@@ -1,9 +1,12 @@
 // A motor of the airframe, 1 to 4. It is no output lane: the board map alone turns one into the
 // other.
-ghost use Rattle.std.specs.Prelude.{◌≡◌, ◌≤◌};
-ghost use Rattle.airframe.specs.Motor.{motor_number, same_motor, motor_of, read_motor, motor_read};
+ghost use Rattle.std.specs.Prelude.{◌≡◌};
+ghost use Rattle.base.specs.Reply.{replied};
+ghost use Rattle.airframe.specs.Motor.{motor_number, motor_of, read_motor};
 
-#[derive(Clone, Copy)]
+use base::Refusal;
+
+#[derive(Clone, Copy, PartialEq, Eq)]
 pub enum MotorNumber {
     One,
     Two,
@@ -11,54 +14,42 @@ pub enum MotorNumber {
     Four,
 }
 
-#[derive(Clone, Copy)]
+#[derive(Clone, Copy, PartialEq, Eq)]
 pub struct Motor(pub MotorNumber);
 
-#[derive(Clone, Copy)]
-pub enum MotorRead {
-    Motor(Motor),
-    // A motor's byte is not 1 to 4, or a lane's byte is above 3.
-    OutOfRange,
+// The motor of a number, or 6 where it is not 1 to 4.
+impl TryFrom<u8> for Motor {
+    type Error = Refusal;
+
+    ghost try_from_gives = { λ byte read. replied read ≡ read_motor byte };
+
+    #[tactic(auto, unfolding(crate::specs::Motor::read_motor))]
+    fn try_from(byte: u8) -> Result<Motor, Refusal> {
+        if (1..=4).contains(&byte) {
+            Ok(motor_of(byte))
+        } else {
+            Err(Refusal::Lane)
+        }
+    }
 }
 
-impl Motor {
-    // The motor of a number, or 6 where it is not 1 to 4.
-    pub fn from_byte(byte: u8) -> MotorRead
-        ensures { motor_read result ≡ read_motor byte }
-    {
-        if byte < 1 {
-            return MotorRead::OutOfRange;
-        }
-        if 4 < byte {
-            return MotorRead::OutOfRange;
-        }
-        MotorRead::Motor(motor_of(byte))
-    }
+// The motor's number, 1 to 4.
+impl From<Motor> for u8 {
+    ghost from_gives = { λ motor number. number ≡ motor_number motor };
 
-    // The motor's number, 1 to 4.
-    pub fn number(self) -> u8
-        ensures { result ≡ motor_number self }
-    {
-        let number = self.0;
-        match number {
+    fn from(motor: Motor) -> u8 {
+        match motor.0 {
             MotorNumber::One => 1,
             MotorNumber::Two => 2,
             MotorNumber::Three => 3,
             MotorNumber::Four => 4,
         }
     }
-
-    // Whether both are one motor: two values of an enum can't be compared by ==.
-    pub fn same(self, other: Motor) -> bool
-        ensures { result ≡ same_motor self other }
-    {
-        self.number() == other.number()
-    }
 }
 
 // The motor of a byte that was tested.
+#[tactic(auto, unfolding(crate::specs::Motor::motor_of))]
 pub(crate) fn motor_of(byte: u8) -> Motor
-    requires { (1 ≤ byte) × (byte ≤ 4) }
     ensures { result ≡ motor_of byte }
 {
     match byte {

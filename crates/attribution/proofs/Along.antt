@@ -1,7 +1,7 @@
 -- What holds of an empty log, and is kept by each opening and by each step, holds of every log.
 use mathlib.Core.Path.{◌≡◌, sym, subst}
 use mathlib.Core.List.{[], ◌∷◌}
-use mathlib.Core.Option.{Option, none, some}
+use Rattle.std.specs.Prelude.{Option, None, Some}
 use Prim.Native.Nat.{ℕ}
 use Rattle.esc_feedback.specs.declared.config.EscManagerConfig.{EscManagerConfig}
 use Rattle.esc_records.specs.declared.record.Record.TheVariants as kind
@@ -15,7 +15,7 @@ use Rattle.attribution.proofs.Steps.{Step, plain, grants, takes, answers, ends, 
 abbrev pub opening_of : EscManagerConfig → ℕ → Option ℕ → LogEntry
 opening_of c t o = record { seen = seen (kind.Open c t) answer.Done; origin = o }
 
-step-opening : (o : Opening) (h : Past) (e : Seen) → Step o h e → e.opening ≡ none
+step-opening : (o : Opening) (h : Past) (e : Seen) → Step o h e → e.opening ≡ None
 step-opening o h e (plain s) = s.opening
 step-opening o h e (grants q f s) = s.opening
 step-opening o h e (takes b a s) = s.opening
@@ -24,17 +24,17 @@ step-opening o h e (ends t s) = s.opening
 step-opening o h e (restarts c f w s) = s.opening
 
 -- what has come since the opening, with one entry more
-since-opening : (l : Log) (s : Since) (e : LogEntry) → since_in l ≡ some s → Step s.opening s.past e.seen
-    → since_in (e ∷ l) ≡ some (record { opening = s.opening; past = e.seen ∷ s.past })
+since-opening : (l : Log) (s : Since) (e : LogEntry) → since_in l ≡ Some s → Step s.opening s.past e.seen
+    → since_in (e ∷ l) ≡ Some (record { opening = s.opening; past = e.seen ∷ s.past })
 unfolding since_in
 since-opening l s e x st = rw (x, step-opening s.opening s.past e.seen st)
 
-module _ (Q : Log → Option Since → Type 0) (empty : Q [] none)
+module _ (Q : Log → Option Since → Type 0) (empty : Q [] None)
     (opening : (l : Log) (c : EscManagerConfig) (t : ℕ) (o : Option ℕ) → Q l (since_in l)
-    → Q (opening_of c t o ∷ l) (some (record { opening = record { config = c; boot = t }; past = [] })))
-    (stepping : (l : Log) (s : Since) (e : LogEntry) → Lawful l → since_in l ≡ some s → Step s.opening s.past e.seen → Q l (some s)
-    → Q (e ∷ l) (some (record { opening = s.opening; past = e.seen ∷ s.past }))) where
-  stepped : (l : Log) (s : Since) (e : LogEntry) → Lawful l → since_in l ≡ some s → Step s.opening s.past e.seen → Q l (since_in l)
+    → Q (opening_of c t o ∷ l) (Some (record { opening = record { config = c; boot = t }; past = [] })))
+    (stepping : (l : Log) (s : Since) (e : LogEntry) → Lawful l → since_in l ≡ Some s → Step s.opening s.past e.seen → Q l (Some s)
+    → Q (e ∷ l) (Some (record { opening = s.opening; past = e.seen ∷ s.past }))) where
+  stepped : (l : Log) (s : Since) (e : LogEntry) → Lawful l → since_in l ≡ Some s → Step s.opening s.past e.seen → Q l (since_in l)
       → Q (e ∷ l) (since_in (e ∷ l))
   stepped l s e i x st q = subst (Q (e ∷ l)) (sym (since-opening l s e x st)) (stepping l s e i x st (subst (Q l) x q))
 

@@ -2,7 +2,7 @@
 -- in since are its own. So the ten of a frame among them are all that it sends.
 use mathlib.Core.Path.{◌≡◌, refl, sym, ◌∙◌, ap, subst}
 use mathlib.Core.List.{List, [], ◌∷◌, ◌++◌, append_assoc, append-nil, map, map-append, map-map}
-use mathlib.Core.Option.{none, some}
+use Rattle.std.specs.Prelude.{None, Some}
 use mathlib.Core.Bool.{false}
 use Prim.Native.Nat.{ℕ, ◌+◌, ◌≤◌, ◌<◌}
 use native.Mathlib.Omega.{arith}
@@ -108,7 +108,7 @@ all-spent l q f a r k i c o = below_or_not k (length a.earlier) (λ b. a.spent k
     own : k ≡ length a.earlier → 10 ≤ length (sent_by k l)
     own z = rw z (ten-sent l (length a.earlier) a.own f r)
 
-module _ (l : Log) (e : LogEntry) (g : e.seen.requests.granted ≡ none) (o : e.seen.opening ≡ none) (r : e.seen.requests.recovered ≡ false)
+module _ (l : Log) (e : LogEntry) (g : e.seen.requests.granted ≡ None) (o : e.seen.opening ≡ None) (r : e.seen.requests.recovered ≡ false)
     (q : EscActuatorRequest) (a : Asked l q) where
   abbrev number : ℕ
   number = length a.earlier
@@ -117,7 +117,7 @@ module _ (l : Log) (e : LogEntry) (g : e.seen.requests.granted ≡ none) (o : e.
   still-asked i = record { earlier = a.earlier; newest = requests-keep l e g ∙ a.newest; spent = spent-keeps l e o r number a.spent; own = i }
 
   -- without a byte
-  pub asked-same : e.seen.wire.byte ≡ none → Asked (e ∷ l) q
+  pub asked-same : e.seen.wire.byte ≡ None → Asked (e ∷ l) q
   unfolding sent_by
   asked-same b =
       let i = a.own in
@@ -126,7 +126,7 @@ module _ (l : Log) (e : LogEntry) (g : e.seen.requests.granted ≡ none) (o : e.
       (record { bytes = i.bytes; since = since-same l e g b ∙ i.since; before = i.before; sent = same ∙ i.sent; few = λ n. rw same (i.few n) })
 
   -- with a byte: its origin is the open request, since all others are spent
-  module _ (b : Byte) (x : e.seen.wire.byte ≡ some b) (m : Origin l e.origin) where
+  module _ (b : Byte) (x : e.seen.wire.byte ≡ Some b) (m : Origin l e.origin) where
     own-number : m.number ≡ number
     own-number = below_or_not m.number number earlier later
       where

@@ -2,13 +2,12 @@
 -- quiet follow from times.
 use mathlib.Core.Path.{◌≡◌, refl}
 use mathlib.Core.List.{[], ◌∷◌}
-use mathlib.Core.Option.{Option, none, some}
+use Rattle.std.specs.Prelude.{Option, None, Some, is_some}
 use mathlib.Core.Bool.{Bool, true, false, not, ◌&&◌, ◌||◌}
 use Prim.Native.Nat.{ℕ, ◌≤◌}
 use native.Mathlib.Omega.{arith}
 use lib.Dec.{leb}
 use borrow.Author.Tests.{le-leb}
-use Rattle.base.specs.Maybe.{is}
 use Rattle.booking.specs.History.{Byte}
 use Rattle.booking.specs.Faults.{faulted}
 use Rattle.attribution.specs.Marks.{LogEntry, Log, since_in, past}
@@ -29,11 +28,11 @@ late-enough : (l : Log) (e : LogEntry) → TimelySince l (since_in l) → Times 
 late-enough l e i t n m = go e.seen.wire.byte refl (faulted (past l)) refl e.origin refl
   where
     go : (b : Option Byte) → e.seen.wire.byte ≡ b → (f : Bool) → faulted (past l) ≡ f → (o : Option ℕ) → e.origin ≡ o
-        → (not (is b && not f) || of_origin (λ k. leb n k) o) ≡ true
-    go none x f y o z = refl
-    go (some b) x true y o z = refl
-    go (some b) x false y none z = refl
-    go (some b) x false y (some k) z =
+        → (not (is_some b && not f) || of_origin (λ k. leb n k) o) ≡ true
+    go None x f y o z = refl
+    go (Some b) x true y o z = refl
+    go (Some b) x false y None z = refl
+    go (Some b) x false y (Some k) z =
         let c : clock_at l ≤ e.seen.now = clock-holds l e t (stamped-byte e.seen b x) in
         let p : earlier l ≤ k = not_earlier l (past l) (quiet_time l) e.seen.now i y c k (answer-now l e t b x y k z) in
         le-leb n k (omega arith)

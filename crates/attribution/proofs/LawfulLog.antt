@@ -1,7 +1,7 @@
 -- Each entry of a log is a 00 or a record with the rule's answer to it, since every reply is the rule's.
 use mathlib.Core.Path.{◌≡◌, refl, sym, ap, subst}
 use mathlib.Core.List.{List, [], ◌∷◌, ◌++◌}
-use mathlib.Core.Option.{Option, none, some}
+use Rattle.std.specs.Prelude.{Option, None, Some}
 use mathlib.Core.Bool.{Bool, true, false}
 use Prim.Native.Nat.{ℕ}
 use lib.Dec.{leb}
@@ -24,7 +24,7 @@ use Rattle.attribution.proofs.ByRule.{trace_marked, marked-by-rule}
 pub data Lawful : Log → Type 0 where
   start : Lawful []
   opened : {l : Log} (c : EscManagerConfig) (t : ℕ) (o : Option ℕ) → Lawful l → Lawful (record { seen = seen (kind.Open c t) answer.Done; origin = o } ∷ l)
-  more : {l : Log} (s : Since) (r : Record) (o : Option ℕ) → since_in l ≡ some s → opens r ≡ false → Lawful l
+  more : {l : Log} (s : Since) (r : Record) (o : Option ℕ) → since_in l ≡ Some s → opens r ≡ false → Lawful l
       → Lawful (record { seen = seen r (answer_to s.opening s.past r); origin = o } ∷ l)
 
 -- a reply that there is room for is entered, any other passed over
@@ -37,7 +37,7 @@ fitting l r a o room i j = go (leb (length (answer_bytes a)) room)
     go false = i
 
 module _ (l : Log) (o : Option ℕ) (room : ℕ) (i : Lawful l) where
-  never-opened : (r : Record) → Lawful (logged (accepted r) (with_room room (reply_to none r)) o l)
+  never-opened : (r : Record) → Lawful (logged (accepted r) (with_room room (reply_to None r)) o l)
   never-opened (kind.Open c t) = fitting l (kind.Open c t) answer.Done o room i (opened c t o i)
   never-opened (kind.NextRequest now) = i
   never-opened (kind.MarkRequestQueued q now) = i
@@ -54,11 +54,11 @@ module _ (l : Log) (o : Option ℕ) (room : ℕ) (i : Lawful l) where
   never-opened (kind.StoredSample n) = i
   never-opened (kind.Figures n) = i
 
-  module _ (s : Since) (e : since_in l ≡ some s) where
-    opened-more : (r : Record) → opens r ≡ false → Lawful (logged (accepted r) (with_room room (reply_to (some s) r)) o l)
+  module _ (s : Since) (e : since_in l ≡ Some s) where
+    opened-more : (r : Record) → opens r ≡ false → Lawful (logged (accepted r) (with_room room (reply_to (Some s) r)) o l)
     opened-more r f = fitting l r (answer_to s.opening s.past r) o room i (more s r o e f i)
 
-    opened-before : (r : Record) → Lawful (logged (accepted r) (with_room room (reply_to (some s) r)) o l)
+    opened-before : (r : Record) → Lawful (logged (accepted r) (with_room room (reply_to (Some s) r)) o l)
     opened-before (kind.Open c t) = fitting l (kind.Open c t) answer.Done o room i (opened c t o i)
     opened-before (kind.NextRequest now) = opened-more (kind.NextRequest now) refl
     opened-before (kind.MarkRequestQueued q now) = opened-more (kind.MarkRequestQueued q now) refl
@@ -77,8 +77,8 @@ module _ (l : Log) (o : Option ℕ) (room : ℕ) (i : Lawful l) where
 
   lawful-entry : (s : Option Since) → since_in l ≡ s → (x : Reply Record) → Lawful (logged x (reply_on room s x) o l)
   lawful-entry s e (refused n) = i
-  lawful-entry none e (accepted r) = never-opened r
-  lawful-entry (some s) e (accepted r) = opened-before s e r
+  lawful-entry None e (accepted r) = never-opened r
+  lawful-entry (Some s) e (accepted r) = opened-before s e r
 
 -- a log and its history have the same latest 00 and the same past
 since-in : (h : MarkedHistory) → since (events_of h) ≡ since_in (log_of h)

@@ -2,7 +2,7 @@
 use mathlib.Core.Path.{◌≡◌, refl, sym, subst}
 use mathlib.Core.Bool.{Bool}
 use mathlib.Core.List.{List, [], ◌∷◌, ◌++◌}
-use mathlib.Core.Option.{Option, none, some}
+use Rattle.std.specs.Prelude.{Option, None, Some}
 use Prim.Native.Nat.{ℕ}
 use lib.Dec.{eqb}
 use lib.ListN.{length, replicate}
@@ -23,7 +23,7 @@ use Rattle.attribution.specs.Pace.{asked_and_done_in_time, one_clock, settings}
 use Rattle.attribution.proofs.ByRule.{trace_marked, marked-by-rule}
 
 abbrev pub unmarked : List ℕ → Marked
-unmarked bytes = record { call = calls.roomy bytes; origin = none }
+unmarked bytes = record { call = calls.roomy bytes; origin = None }
 
 -- with a boot delay and a period, or none; acknowledgement timeout 20 where none is given, response timeout 100, quiet time 500
 abbrev setting_of : ℕ → ℕ → ℕ → ℕ → Marked
@@ -63,8 +63,8 @@ zeros n o t = replicate n (record { call = calls.roomy (calls.byte t 0x00); orig
 
 -- the lanes that samples were booked to, oldest first
 abbrev booked_in : Option EscTelemetryUpdate → List ℕ
-booked_in none = []
-booked_in (some u) = lane_of u.output ∷ []
+booked_in None = []
+booked_in (Some u) = lane_of u.output ∷ []
 
 abbrev pub booked : Log → List ℕ
 booked [] = []
@@ -72,13 +72,13 @@ booked (e ∷ l) = booked l ++ booked_in e.seen.requests.delivered
 
 -- the lane of the request that made an ESC send a byte
 abbrev arm_of : List EscActuatorRequest → Option ℕ → Option ℕ
-arm_of qs none = none
-arm_of [] (some k) = none
-arm_of (q ∷ qs) (some k) = pick (eqb (length qs) k) (some (lane_of q.output)) (arm_of qs (some k))
+arm_of qs None = None
+arm_of [] (Some k) = None
+arm_of (q ∷ qs) (Some k) = pick (eqb (length qs) k) (Some (lane_of q.output)) (arm_of qs (Some k))
 
 abbrev arm_in : Option Byte → Option ℕ → List (Option ℕ)
-arm_in none arm = []
-arm_in (some b) arm = arm ∷ []
+arm_in None arm = []
+arm_in (Some b) arm = arm ∷ []
 
 abbrev arms_in : List EscActuatorRequest → Log → List (Option ℕ)
 arms_in qs [] = []

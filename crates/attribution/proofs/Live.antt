@@ -1,7 +1,7 @@
 -- Lists on which the claims say something: all that is assumed holds, samples are delivered, and each came from its request.
 use mathlib.Core.Path.{refl}
 use mathlib.Core.List.{List, [], ◌∷◌, ◌++◌}
-use mathlib.Core.Option.{none, some}
+use Rattle.std.specs.Prelude.{None, Some}
 use lib.ListN.{replicate}
 use Rattle.base.specs.BigEndian.{number_at, bytes_of}
 use Rattle.blheli_telemetry.specs.Crc.{crc_bit, crc_bits, crc_byte, crc_from, crc_of}
@@ -47,29 +47,29 @@ use Rattle.attribution.proofs.ByCuts.{attributed-by-cuts}
 abbrev pub flight : List Marked
 flight =
     -- a frame before its acknowledgement
-    opening 0 ∷ queue 0 0 1 ∷ zeros 10 (some 0) 2 ++ (acknowledge 0 0 3
+    opening 0 ∷ queue 0 0 1 ∷ zeros 10 (Some 0) 2 ++ (acknowledge 0 0 3
     -- a byte is lost: no frame, a timeout, noise while faulted, a recovery
-    ∷ cut ∷ ask 1 1 4 ++ (zeros 9 (some 1) 5 ++ (poll 200 ∷ zeros 25 none 201 ++ (recover 701
-    ∷ ask 2 2 702 ++ (zeros 10 (some 2) 703
+    ∷ cut ∷ ask 1 1 4 ++ (zeros 9 (Some 1) 5 ++ (poll 200 ∷ zeros 25 None 201 ++ (recover 701
+    ∷ ask 2 2 702 ++ (zeros 10 (Some 2) 703
     -- a cut within a frame: no sample
-    ++ (cut ∷ ask 3 3 704 ++ (zeros 4 (some 3) 705 ++ (cut ∷ zeros 6 (some 3) 706
+    ++ (cut ∷ ask 3 3 704 ++ (zeros 4 (Some 3) 705 ++ (cut ∷ zeros 6 (Some 3) 706
     -- a second opening, in which (0, lane 0) is asked again
-    ++ (opening 1300 ∷ ask 0 0 1301 ++ zeros 10 (some 4) 1302)))))))))
+    ++ (opening 1300 ∷ ask 0 0 1301 ++ zeros 10 (Some 4) 1302)))))))))
 
 -- with cuts, noise while nothing is open and an eleventh byte do no harm
 abbrev pub noisy : List Marked
 noisy =
-    opening 0 ∷ zeros 7 none 1 ++ (cut ∷ ask 0 0 2 ++ (zeros 10 (some 0) 3
-    ++ (zeros 1 (some 0) 4 ++ (zeros 3 none 4 ++ (cut ∷ ask 1 1 5 ++ zeros 10 (some 1) 6)))))
+    opening 0 ∷ zeros 7 None 1 ++ (cut ∷ ask 0 0 2 ++ (zeros 10 (Some 0) 3
+    ++ (zeros 1 (Some 0) 4 ++ (zeros 3 None 4 ++ (cut ∷ ask 1 1 5 ++ zeros 10 (Some 1) 6)))))
 
 pub record Live : Type 0 where
   pub flight-comes : Row (log_after flight) [] [] [] (0 ∷ 2 ∷ 0 ∷ [])
-      (replicate 10 (some 0) ++ (replicate 9 (some 1) ++ (replicate 25 none ++ (replicate 10 (some 2) ++ (replicate 10 (some 3) ++ replicate 10 (some 0))))))
+      (replicate 10 (Some 0) ++ (replicate 9 (Some 1) ++ (replicate 25 None ++ (replicate 10 (Some 2) ++ (replicate 10 (Some 3) ++ replicate 10 (Some 0))))))
   pub by-wiring : Newest flight CameFrom
   pub by-times : Newest flight CameFrom
   pub by-cuts : Newest flight CameFrom
   pub noisy-comes : Row (log_after noisy) (e1 ∷ e3 ∷ []) (e1 ∷ e3 ∷ []) [] (0 ∷ 1 ∷ [])
-      (replicate 7 none ++ (replicate 11 (some 0) ++ (replicate 3 none ++ replicate 10 (some 1))))
+      (replicate 7 None ++ (replicate 11 (Some 0) ++ (replicate 3 None ++ replicate 10 (Some 1))))
   pub noisy-by-cuts : Newest noisy CameFrom
 
 pub live : Live

@@ -2,7 +2,7 @@
 -- is false. In the order of the lists: what fails of the five, with times, with cuts; where samples went and where bytes came from.
 use mathlib.Core.Path.{refl}
 use mathlib.Core.List.{List, [], ◌∷◌, ◌++◌}
-use mathlib.Core.Option.{none, some}
+use Rattle.std.specs.Prelude.{None, Some}
 use lib.ListN.{replicate}
 use Rattle.base.specs.BigEndian.{number_at, bytes_of}
 use Rattle.blheli_telemetry.specs.Crc.{crc_bit, crc_bits, crc_byte, crc_from, crc_of}
@@ -63,59 +63,59 @@ use Rattle.attribution.proofs.Refuted.{not-from}
 
 -- E1: noise makes a frame
 abbrev pub noise : List Marked
-noise = opening 0 ∷ ask 0 0 1 ++ zeros 10 none 2
+noise = opening 0 ∷ ask 0 0 1 ++ zeros 10 None 2
 
 -- E1 too: one byte of noise before the first request, and the sample of lane 1 begins with a byte of lane 0, since 02 does not cut
 abbrev pub shifted : List Marked
-shifted = opening 0 ∷ zeros 1 none 1 ++ (ask 0 0 2 ++ (zeros 10 (some 0) 3 ++ (ask 1 1 4 ++ zeros 9 (some 1) 5)))
+shifted = opening 0 ∷ zeros 1 None 1 ++ (ask 0 0 2 ++ (zeros 10 (Some 0) 3 ++ (ask 1 1 4 ++ zeros 9 (Some 1) 5)))
 
 -- E2: lane 1 sends before it is asked. Its row has it asked afterwards, so that the bytes' request has an arm
 abbrev pub early : List Marked
-early = opening 0 ∷ ask 0 0 1 ++ zeros 10 (some 1) 2
+early = opening 0 ∷ ask 0 0 1 ++ zeros 10 (Some 1) 2
 
 -- E3: lane 0 sends two frames
 abbrev pub twice : List Marked
-twice = opening 0 ∷ ask 0 0 1 ++ (zeros 10 (some 0) 2 ++ (cut ∷ ask 1 1 3 ++ zeros 10 (some 0) 4))
+twice = opening 0 ∷ ask 0 0 1 ++ (zeros 10 (Some 0) 2 ++ (cut ∷ ask 1 1 3 ++ zeros 10 (Some 0) 4))
 
 -- E3 too: that a request sends nothing once its sample is delivered would not do. An eleventh byte before the acknowledgement stays on
 -- the wire, and nine of lane 1 complete it
 abbrev pub eleventh : List Marked
-eleventh = opening 0 ∷ queue 0 0 1 ∷ zeros 11 (some 0) 2 ++ (acknowledge 0 0 3 ∷ ask 1 1 4 ++ zeros 9 (some 1) 5)
+eleventh = opening 0 ∷ queue 0 0 1 ∷ zeros 11 (Some 0) 2 ++ (acknowledge 0 0 3 ∷ ask 1 1 4 ++ zeros 9 (Some 1) 5)
 
 -- E4, an answer within the quiet time: lane 0 answers 701 after its request, and the quiet time is 500
 abbrev pub late : List Marked
-late = opening 0 ∷ ask 0 0 1 ++ (poll 200 ∷ recover 700 ∷ ask 1 1 701 ++ zeros 10 (some 0) 702)
+late = opening 0 ∷ ask 0 0 1 ++ (poll 200 ∷ recover 700 ∷ ask 1 1 701 ++ zeros 10 (Some 0) 702)
 
 -- the same to the ms: lane 0 answers 500 after its request
 abbrev pub punctual : List Marked
-punctual = opening_with 0 0 ∷ queue 0 0 1 ∷ poll 1 ∷ recover 501 ∷ ask 1 1 501 ++ zeros 10 (some 0) 501
+punctual = opening_with 0 0 ∷ queue 0 0 1 ∷ poll 1 ∷ recover 501 ∷ ask 1 1 501 ++ zeros 10 (Some 0) 501
 
 -- a clock that does not run back: lane 0 answers 399 after its request by a clock that was set back by 400
 abbrev pub back : List Marked
-back = opening 0 ∷ ask 0 0 1 ++ (poll 200 ∷ recover 700 ∷ ask 1 1 300 ++ zeros 10 (some 0) 400)
+back = opening 0 ∷ ask 0 0 1 ++ (poll 200 ∷ recover 700 ∷ ask 1 1 300 ++ zeros 10 (Some 0) 400)
 
 -- E5, a reopening that waits the quiet time: the unit is opened anew 499 after lane 1 was asked, and lane 1 has still to answer
 abbrev pub reopened : List Marked
-reopened = opening 0 ∷ ask 0 0 1 ++ (zeros 10 (some 0) 2 ++ (cut ∷ ask 1 1 3 ++ (opening 502 ∷ ask 0 0 502 ++ zeros 10 (some 1) 502)))
+reopened = opening 0 ∷ ask 0 0 1 ++ (zeros 10 (Some 0) 2 ++ (cut ∷ ask 1 1 3 ++ (opening 502 ∷ ask 0 0 502 ++ zeros 10 (Some 1) 502)))
 
 pub record Needed : Type 0 where
-  pub noise-comes : Row (log_after noise) (e1 ∷ []) (e1 ∷ []) (e1 ∷ []) (0 ∷ []) (replicate 10 none)
+  pub noise-comes : Row (log_after noise) (e1 ∷ []) (e1 ∷ []) (e1 ∷ []) (0 ∷ []) (replicate 10 None)
   pub noise-wrong : Refuted CameFrom noise
-  pub shifted-comes : Row (log_after shifted) (e1 ∷ []) (e1 ∷ []) (cutting ∷ []) (0 ∷ 1 ∷ []) (none ∷ replicate 10 (some 0) ++ replicate 9 (some 1))
+  pub shifted-comes : Row (log_after shifted) (e1 ∷ []) (e1 ∷ []) (cutting ∷ []) (0 ∷ 1 ∷ []) (None ∷ replicate 10 (Some 0) ++ replicate 9 (Some 1))
   pub shifted-wrong : Refuted CameFrom shifted
-  pub early-comes : Row (log_after (early ++ (cut ∷ ask 1 1 3))) (e2 ∷ []) (e2 ∷ []) (e2 ∷ []) (0 ∷ []) (replicate 10 (some 1))
+  pub early-comes : Row (log_after (early ++ (cut ∷ ask 1 1 3))) (e2 ∷ []) (e2 ∷ []) (e2 ∷ []) (0 ∷ []) (replicate 10 (Some 1))
   pub early-wrong : Refuted CameFrom early
-  pub twice-comes : Row (log_after twice) (e3 ∷ []) (e3 ∷ []) (e3 ∷ []) (0 ∷ 1 ∷ []) (replicate 20 (some 0))
+  pub twice-comes : Row (log_after twice) (e3 ∷ []) (e3 ∷ []) (e3 ∷ []) (0 ∷ 1 ∷ []) (replicate 20 (Some 0))
   pub twice-wrong : Refuted CameFrom twice
-  pub eleventh-comes : Row (log_after eleventh) (e3 ∷ []) (e3 ∷ []) (e3 ∷ cutting ∷ []) (0 ∷ 1 ∷ []) (replicate 11 (some 0) ++ replicate 9 (some 1))
+  pub eleventh-comes : Row (log_after eleventh) (e3 ∷ []) (e3 ∷ []) (e3 ∷ cutting ∷ []) (0 ∷ 1 ∷ []) (replicate 11 (Some 0) ++ replicate 9 (Some 1))
   pub eleventh-wrong : Refuted CameFrom eleventh
-  pub late-comes : Row (log_after late) (e4 ∷ []) (answer ∷ []) (e4 ∷ []) (1 ∷ []) (replicate 10 (some 0))
+  pub late-comes : Row (log_after late) (e4 ∷ []) (answer ∷ []) (e4 ∷ []) (1 ∷ []) (replicate 10 (Some 0))
   pub late-wrong : Refuted CameFrom late
-  pub punctual-comes : Row (log_after punctual) (e4 ∷ []) (answer ∷ []) (e4 ∷ []) (1 ∷ []) (replicate 10 (some 0))
+  pub punctual-comes : Row (log_after punctual) (e4 ∷ []) (answer ∷ []) (e4 ∷ []) (1 ∷ []) (replicate 10 (Some 0))
   pub punctual-wrong : Refuted CameFrom punctual
-  pub back-comes : Row (log_after back) (e4 ∷ []) (clock ∷ []) (e4 ∷ []) (1 ∷ []) (replicate 10 (some 0))
+  pub back-comes : Row (log_after back) (e4 ∷ []) (clock ∷ []) (e4 ∷ []) (1 ∷ []) (replicate 10 (Some 0))
   pub back-wrong : Refuted CameFrom back
-  pub reopened-comes : Row (log_after reopened) (e5 ∷ []) (reopening ∷ []) (e5 ∷ []) (0 ∷ 0 ∷ []) (replicate 10 (some 0) ++ replicate 10 (some 1))
+  pub reopened-comes : Row (log_after reopened) (e5 ∷ []) (reopening ∷ []) (e5 ∷ []) (0 ∷ 0 ∷ []) (replicate 10 (Some 0) ++ replicate 10 (Some 1))
   pub reopened-wrong : Refuted CameFrom reopened
 
 pub needed : Needed

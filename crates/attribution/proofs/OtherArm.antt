@@ -2,7 +2,7 @@
 use mathlib.Core.Path.{◌≡◌, refl}
 use mathlib.Core.Bool.{Bool, true, false}
 use mathlib.Core.List.{List, [], ◌∷◌, ◌++◌}
-use mathlib.Core.Option.{Option}
+use Rattle.std.specs.Prelude.{Option, is_some}
 use Prim.Native.Nat.{ℕ, ◌+◌, ◌≤◌}
 use native.Mathlib.Omega.{arith}
 use lib.Dec.{leb}
@@ -10,7 +10,6 @@ use lib.ListN.{length, length-append}
 use borrow.Author.Tests.{le-leb}
 use Rattle.esc_lanes.specs.declared.request.EscActuatorRequest.{EscActuatorRequest}
 use Rattle.esc_lanes.specs.declared.request.EscTelemetryUpdate.{EscTelemetryUpdate}
-use Rattle.base.specs.Maybe.{is}
 use Rattle.booking.specs.Counts.{one}
 use Rattle.attribution.specs.Marks.{Marked, Log}
 use Rattle.attribution.specs.Origin.{requests, Arrival}
@@ -53,5 +52,5 @@ own-ten l u c = le-leb 10 (own_of (requests l) (taken_since l)) (rw (c.latest, c
         let n = length-append c.ten.nine (c.ten.tenth ∷ []) in
         omega (arith, c.ten.count)
 
-pub other_arm : (ms : List Marked) → is (delivered_in (rule_log ms)) ≡ true → ten_own (rule_log ms) ≡ false → Refuted NoOtherArm ms
+pub other_arm : (ms : List Marked) → is_some (delivered_in (rule_log ms)) ≡ true → ten_own (rule_log ms) ≡ false → Refuted NoOtherArm ms
 other_arm = refuted-by NoOtherArm ten_own own-ten

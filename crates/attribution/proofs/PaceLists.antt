@@ -3,7 +3,7 @@
 use mathlib.Core.Path.{◌≡◌, refl}
 use mathlib.Core.Bool.{Bool, true, false}
 use mathlib.Core.List.{List, [], ◌∷◌, ◌++◌}
-use mathlib.Core.Option.{Option, none, some}
+use Rattle.std.specs.Prelude.{Option, None, Some}
 use Prim.Native.Nat.{ℕ}
 use lib.ListN.{replicate}
 use Rattle.base.specs.BigEndian.{number_at, bytes_of}
@@ -84,52 +84,52 @@ row ms =
     }
 
 abbrev arm : ℕ → ℕ → List (Option ℕ)
-arm n lane = replicate n (some lane)
+arm n lane = replicate n (Some lane)
 
 abbrev noise : ℕ → List (Option ℕ)
-noise n = replicate n none
+noise n = replicate n None
 
 -- all assumptions hold
 abbrev pub noisy_flight : List Marked
 noisy_flight =
     -- noise before the first request; a frame before its acknowledgement, and noise after it
-    opening_paced 20 20 0 ∷ zeros 3 none 5 ++ (cut ∷ queue 0 0 20 ∷ zeros 10 (some 0) 22 ++ (zeros 2 none 23 ++ (acknowledge 0 0 24
+    opening_paced 20 20 0 ∷ zeros 3 None 5 ++ (cut ∷ queue 0 0 20 ∷ zeros 10 (Some 0) 22 ++ (zeros 2 None 23 ++ (acknowledge 0 0 24
     -- a byte is lost: a timeout, noise while faulted, a recovery
-    ∷ cut ∷ ask 1 1 40 ++ (zeros 9 (some 1) 45 ++ (poll 200 ∷ zeros 25 none 201 ++ (recover 701
+    ∷ cut ∷ ask 1 1 40 ++ (zeros 9 (Some 1) 45 ++ (poll 200 ∷ zeros 25 None 201 ++ (recover 701
     -- a byte is lost and noise is in its place
-    ∷ ask 2 2 702 ++ (zeros 4 (some 2) 703 ++ (zeros 1 none 703 ++ (zeros 5 (some 2) 704
+    ∷ ask 2 2 702 ++ (zeros 4 (Some 2) 703 ++ (zeros 1 None 703 ++ (zeros 5 (Some 2) 704
     -- a second opening while lane 3 answers
-    ++ (cut ∷ ask 3 3 722 ++ (zeros 4 (some 3) 723 ++ (opening_paced 20 20 730 ∷ zeros 6 (some 3) 735
-    ++ (cut ∷ ask 0 0 750 ++ zeros 10 (some 4) 769)))))))))))))
+    ++ (cut ∷ ask 3 3 722 ++ (zeros 4 (Some 3) 723 ++ (opening_paced 20 20 730 ∷ zeros 6 (Some 3) 735
+    ++ (cut ∷ ask 0 0 750 ++ zeros 10 (Some 4) 769)))))))))))))
 
 -- lane 0 answers in full, and the wire is cut
 abbrev first : List Marked
-first = ask 0 0 20 ++ (zeros 10 (some 0) 21 ++ cut ∷ [])
+first = ask 0 0 20 ++ (zeros 10 (Some 0) 21 ++ cut ∷ [])
 
 -- a byte one millisecond too late
 abbrev pub too_late : List Marked
-too_late = opening_paced 20 20 0 ∷ first ++ (ask 1 1 40 ++ (zeros 1 (some 0) 40 ++ zeros 9 (some 1) 41))
+too_late = opening_paced 20 20 0 ∷ first ++ (ask 1 1 40 ++ (zeros 1 (Some 0) 40 ++ zeros 9 (Some 1) 41))
 
 -- a byte that was not asked for. Its row has it asked for afterwards, so that the byte's request has an arm
 abbrev pub unasked : List Marked
-unasked = opening_paced 20 20 0 ∷ ask 0 0 20 ++ (zeros 1 (some 1) 21 ++ zeros 9 (some 0) 21)
+unasked = opening_paced 20 20 0 ∷ ask 0 0 20 ++ (zeros 1 (Some 1) 21 ++ zeros 9 (Some 0) 21)
 
 -- the clock goes back by one
 abbrev pub clock_back : List Marked
-clock_back = opening_paced 20 20 0 ∷ first ++ (ask 1 1 40 ++ (zeros 1 (some 0) 39 ++ zeros 9 (some 1) 40))
+clock_back = opening_paced 20 20 0 ∷ first ++ (ask 1 1 40 ++ (zeros 1 (Some 0) 39 ++ zeros 9 (Some 1) 40))
 
 -- the period one too small
 abbrev pub short_period : List Marked
-short_period = opening_paced 20 19 0 ∷ first ++ (ask 1 1 39 ++ (zeros 1 (some 0) 39 ++ zeros 9 (some 1) 40))
+short_period = opening_paced 20 19 0 ∷ first ++ (ask 1 1 39 ++ (zeros 1 (Some 0) 39 ++ zeros 9 (Some 1) 40))
 
 -- the boot delay one too small
 abbrev pub short_delay : List Marked
 short_delay =
-    opening_paced 20 20 0 ∷ first ++ (ask 1 1 40 ++ (opening_paced 19 20 40 ∷ ask 0 0 59 ++ (zeros 1 (some 1) 59 ++ zeros 9 (some 2) 60)))
+    opening_paced 20 20 0 ∷ first ++ (ask 1 1 40 ++ (opening_paced 19 20 40 ∷ ask 0 0 59 ++ (zeros 1 (Some 1) 59 ++ zeros 9 (Some 2) 60)))
 
 -- a byte between the cut and the 02
 abbrev pub after_the_cut : List Marked
-after_the_cut = opening_paced 20 20 0 ∷ first ++ (zeros 1 (some 0) 39 ++ (ask 1 1 40 ++ zeros 9 (some 1) 41))
+after_the_cut = opening_paced 20 20 0 ∷ first ++ (zeros 1 (Some 0) 39 ++ (ask 1 1 40 ++ zeros 9 (Some 1) 41))
 
 -- no bytes: T is 2^64 + x, and Due takes a period of one for one of 31
 abbrev beyond : ℕ → List ℕ
@@ -143,16 +143,16 @@ zeros_beyond n o x = replicate n (record { call = roomy (0x05 ∷ 0x00 ∷ beyon
 
 abbrev pub no_bytes : List Marked
 no_bytes =
-    opening_paced 20 20 0 ∷ queue_beyond 0 0 30 ∷ acknowledge 0 0 30 ∷ zeros_beyond 10 (some 0) 30
-    ++ (cut ∷ queue_beyond 1 1 31 ∷ acknowledge 1 1 31 ∷ zeros_beyond 1 (some 0) 31 ++ zeros_beyond 9 (some 1) 31)
+    opening_paced 20 20 0 ∷ queue_beyond 0 0 30 ∷ acknowledge 0 0 30 ∷ zeros_beyond 10 (Some 0) 30
+    ++ (cut ∷ queue_beyond 1 1 31 ∷ acknowledge 1 1 31 ∷ zeros_beyond 1 (Some 0) 31 ++ zeros_beyond 9 (Some 1) 31)
 
 pub record PaceLists : Type 0 where
   pub flight-comes : PaceRow noisy_flight true [] (0 ∷ 2 ∷ 0 ∷ [])
       (noise 3 ++ (arm 10 0 ++ (noise 2 ++ (arm 9 1 ++ (noise 25 ++ (arm 4 2 ++ (noise 1 ++ (arm 5 2 ++ (arm 10 3 ++ arm 10 0)))))))))
   pub flight-right : Newest noisy_flight NoOtherArm
   -- with `legacy_uart` P is 20, and no more
-  pub legacy : (t : ℕ) → spacious 20 (some (record { config = legacy_uart; boot = t })) ≡ true
-  pub legacy-most : (t : ℕ) → spacious 21 (some (record { config = legacy_uart; boot = t })) ≡ false
+  pub legacy : (t : ℕ) → spacious 20 (Some (record { config = legacy_uart; boot = t })) ≡ true
+  pub legacy-most : (t : ℕ) → spacious 21 (Some (record { config = legacy_uart; boot = t })) ≡ false
   pub late-comes : PaceRow too_late true (asked_in_time ∷ []) (0 ∷ 1 ∷ []) (arm 11 0 ++ arm 9 1)
   pub late-wrong : Refuted NoOtherArm too_late
   pub unasked-comes : PaceRow (unasked ++ (cut ∷ ask 1 1 40)) true (asked_in_time ∷ []) (0 ∷ []) (arm 1 1 ++ arm 9 0)

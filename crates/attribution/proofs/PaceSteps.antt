@@ -1,7 +1,7 @@
 -- Each step keeps the pace, and so does an opening; so a lawful log has it throughout.
 use mathlib.Core.Path.{◌≡◌, refl, ◌∙◌}
 use mathlib.Core.List.{[], ◌∷◌}
-use mathlib.Core.Option.{Option, none, some}
+use Rattle.std.specs.Prelude.{Option, None, Some, is_some}
 use mathlib.Core.Bool.{Bool, true, false, or-true}
 use Prim.Native.Nat.{ℕ, suc, ◌+◌, ◌≤◌, ◌<◌}
 use native.Mathlib.Omega.{arith}
@@ -11,7 +11,6 @@ use borrow.Author.Tests.{ne_eqb}
 use Rattle.base.specs.Choice.{pick}
 use Rattle.esc_feedback.specs.declared.config.EscManagerConfig.{EscManagerConfig}
 use Rattle.esc_lanes.specs.declared.request.EscActuatorRequest.{EscActuatorRequest}
-use Rattle.base.specs.Maybe.{is}
 use Rattle.booking.specs.History.{Byte, Since}
 use Rattle.booking.specs.Turns.{last_queued}
 use Rattle.attribution.specs.Marks.{LogEntry, Log, since_in}
@@ -28,15 +27,15 @@ use Rattle.attribution.proofs.Along.{opening_of, along}
 use Rattle.attribution.proofs.Since.{since-same, since-more, since-grant, each_append}
 use Rattle.attribution.proofs.Pace.{from_of, Given, Paced, given-before, clock-holds, next, same-paced, quiet-paced, byte-own, rested}
 
-module _ (P : ℕ) (l : Log) (e : LogEntry) (a : Given P (e ∷ l)) (s : Since) (i : Paced P l (some s)) where
-  byte-paced : e.seen.requests.granted ≡ none → (b : Byte) → e.seen.wire.byte ≡ some b → Paced P (e ∷ l) (next P l e a s i)
+module _ (P : ℕ) (l : Log) (e : LogEntry) (a : Given P (e ∷ l)) (s : Since) (i : Paced P l (Some s)) where
+  byte-paced : e.seen.requests.granted ≡ None → (b : Byte) → e.seen.wire.byte ≡ Some b → Paced P (e ∷ l) (next P l e a s i)
   byte-paced g b x =
       same-paced P l e a s i g
       (λ k n. rw (since-more l e g b x) (each_append (no_other k) (taken_since l) _ ∙ rw (i.own k n, byte-own P l e a s i b x k n)))
 
   -- a grant: all before it are P old, and no byte came in since
   grant-paced : (q : EscActuatorRequest) → Free s.opening s.past e.seen.now
-      → Shows e.seen (some (record { request = q; at = e.seen.now })) none none none false → Paced P (e ∷ l) (next P l e a s i)
+      → Shows e.seen (Some (record { request = q; at = e.seen.now })) None None None false → Paced P (e ∷ l) (next P l e a s i)
   unfolding last_queued queued_at requests
   grant-paced q f sh =
       record {
@@ -48,7 +47,7 @@ module _ (P : ℕ) (l : Log) (e : LogEntry) (a : Given P (e ∷ l)) (s : Since) 
       }
     where
       tick : ticks e.seen ≡ true
-      tick = rw sh.granted (or-true (is e.seen.opening))
+      tick = rw sh.granted (or-true (is_some e.seen.opening))
 
       late : latest_t ticks l ≤ e.seen.now
       late = clock-holds P l e a tick
@@ -78,7 +77,7 @@ module _ (P : ℕ) (l : Log) (e : LogEntry) (a : Given P (e ∷ l)) (s : Since) 
 
 -- an opening: its boot T is no less than any before
 module _ (P : ℕ) (l : Log) (c : EscManagerConfig) (t : ℕ) (o : Option ℕ) (a : Given P (opening_of c t o ∷ l)) (s : Option Since) (i : Paced P l s) where
-  opening-paced : Paced P (opening_of c t o ∷ l) (some (record { opening = record { config = c; boot = t }; past = [] }))
+  opening-paced : Paced P (opening_of c t o ∷ l) (Some (record { opening = record { config = c; boot = t }; past = [] }))
   unfolding last_queued queued_at requests
   opening-paced =
       record {
@@ -89,7 +88,7 @@ module _ (P : ℕ) (l : Log) (c : EscManagerConfig) (t : ℕ) (o : Option ℕ) (
         own = λ k n. rw (since-same l (opening_of c t o) refl refl) (i.own k n);
       }
 
-paced-empty : (P : ℕ) → Paced P [] none
+paced-empty : (P : ℕ) → Paced P [] None
 unfolding queued_at requests latest_t
 paced-empty P = record { set = refl; passed = omega arith; queued = λ k. omega arith; old = λ k n. absurd (omega arith); own = λ k n. absurd (omega arith) }
 

@@ -1,4 +1,5 @@
 -- A sample whose request did not make an ESC send ten bytes did not come from it.
+use Rattle.std.specs.Prelude.{is_some}
 use mathlib.Core.Path.{◌≡◌}
 use mathlib.Core.Bool.{Bool, true, false}
 use mathlib.Core.List.{List, [], ◌∷◌}
@@ -9,7 +10,6 @@ use lib.ListN.{length, length-append}
 use borrow.Author.Tests.{eq-eqb}
 use Rattle.esc_lanes.specs.declared.request.EscActuatorRequest.{EscActuatorRequest}
 use Rattle.esc_lanes.specs.declared.request.EscTelemetryUpdate.{EscTelemetryUpdate}
-use Rattle.base.specs.Maybe.{is}
 use Rattle.attribution.specs.Marks.{Marked, Log}
 use Rattle.attribution.specs.Origin.{requests, sent_by}
 use Rattle.attribution.specs.Attributed.{CameFrom}
@@ -30,5 +30,5 @@ came-ten l u c =
     let f = c.frame in
     eq-eqb (own_by (requests l) l) 10 (rw (c.latest, f.sent, length-append f.nine (f.tenth ∷ [])) (omega (arith, f.count)))
 
-pub not-from : (ms : List Marked) → is (delivered_in (rule_log ms)) ≡ true → ten_sent (rule_log ms) ≡ false → Refuted CameFrom ms
+pub not-from : (ms : List Marked) → is_some (delivered_in (rule_log ms)) ≡ true → ten_sent (rule_log ms) ≡ false → Refuted CameFrom ms
 not-from = refuted-by CameFrom ten_sent came-ten

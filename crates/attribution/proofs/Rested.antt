@@ -1,7 +1,7 @@
 -- A byte taken in while no fault stands is not of a request that has rested; and what the three on times say of one entry.
 use mathlib.Core.Path.{◌≡◌, refl}
 use mathlib.Core.List.{◌∷◌}
-use mathlib.Core.Option.{some}
+use Rattle.std.specs.Prelude.{Some}
 use mathlib.Core.Bool.{Bool, true, false}
 use Prim.Native.Nat.{ℕ, ◌+◌, ◌≤◌, ◌<◌}
 use native.Mathlib.Omega.{arith}
@@ -27,7 +27,7 @@ pub record Timely (l : Log) (h : Past) (quiet : ℕ) : Type 0 where
 -- an answer comes within a quiet time of what was heard of its request, while no fault stands
 abbrev pub Prompts : Log → Past → LogEntry → ℕ → Type 0
 Prompts l h e quiet =
-    (b : Byte) → e.seen.wire.byte ≡ some b → faulted h ≡ false → (k : ℕ) → e.origin ≡ some k
+    (b : Byte) → e.seen.wire.byte ≡ Some b → faulted h ≡ false → (k : ℕ) → e.origin ≡ Some k
     → e.seen.now < last_heard k l + quiet
 
 -- a byte taken in while no fault stands is not of a request that has rested

@@ -1,7 +1,7 @@
 -- The requests granted, and the bytes since the latest 02: what one entry more makes of them, and a test that each byte passes.
 use mathlib.Core.Path.{◌≡◌, refl, sym, ◌∙◌}
 use mathlib.Core.List.{List, [], ◌∷◌, ◌++◌, append_assoc, append-nil}
-use mathlib.Core.Option.{Option, none, some}
+use Rattle.std.specs.Prelude.{Option, None, Some}
 use mathlib.Core.Bool.{Bool, true, false, ◌&&◌}
 use Prim.Native.Nat.{ℕ}
 use Rattle.booking.specs.History.{Timed, Byte}
@@ -11,20 +11,20 @@ use Rattle.attribution.specs.Since.{taken_since, each}
 use Rattle.base.proofs.Both.{and_left, and_right}
 
 module _ (l : Log) (e : LogEntry) where
-  pub requests-keep : e.seen.requests.granted ≡ none → requests (e ∷ l) ≡ requests l
+  pub requests-keep : e.seen.requests.granted ≡ None → requests (e ∷ l) ≡ requests l
   unfolding requests
   requests-keep g = rw g
 
-  pub since-same : e.seen.requests.granted ≡ none → e.seen.wire.byte ≡ none → taken_since (e ∷ l) ≡ taken_since l
+  pub since-same : e.seen.requests.granted ≡ None → e.seen.wire.byte ≡ None → taken_since (e ∷ l) ≡ taken_since l
   unfolding taken_since
   since-same g b = rw (g, b) (append-nil (taken_since l))
 
-  pub since-more : e.seen.requests.granted ≡ none → (b : Byte) → e.seen.wire.byte ≡ some b
+  pub since-more : e.seen.requests.granted ≡ None → (b : Byte) → e.seen.wire.byte ≡ Some b
       → taken_since (e ∷ l) ≡ taken_since l ++ record { byte = b; origin = e.origin } ∷ []
   unfolding taken_since
   since-more g b x = rw (g, x)
 
-  pub since-grant : (g : Timed) → e.seen.requests.granted ≡ some g → taken_since (e ∷ l) ≡ []
+  pub since-grant : (g : Timed) → e.seen.requests.granted ≡ Some g → taken_since (e ∷ l) ≡ []
   unfolding taken_since
   since-grant g x = rw x
 
@@ -52,5 +52,5 @@ taken-before [] = record { others = []; whole = refl }
 taken-before (e ∷ l) = go e.seen.requests.granted refl (taken-before l)
   where
     go : (g : Option Timed) → e.seen.requests.granted ≡ g → Before l → Before (e ∷ l)
-    go (some g) x i = record { others = arrivals (e ∷ l); whole = rw x (sym (append-nil (arrivals (e ∷ l)))) }
-    go none x i = record { others = i.others; whole = rw (x, i.whole) (append_assoc i.others (taken_since l) _) }
+    go (Some g) x i = record { others = arrivals (e ∷ l); whole = rw x (sym (append-nil (arrivals (e ∷ l)))) }
+    go None x i = record { others = i.others; whole = rw (x, i.whole) (append_assoc i.others (taken_since l) _) }

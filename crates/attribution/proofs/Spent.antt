@@ -1,7 +1,7 @@
 -- A request that has sent its ten bytes sends no more, and one before the latest recovery or opening sends none: what the five assumptions say of one byte.
 use mathlib.Core.Path.{◌≡◌, refl}
 use mathlib.Core.List.{List, [], ◌∷◌, ◌++◌}
-use mathlib.Core.Option.{Option, none, some}
+use Rattle.std.specs.Prelude.{Option, None, Some, is_some}
 use mathlib.Core.Bool.{Bool, true, false, false≢true}
 use Prim.Native.Nat.{ℕ, ◌≤◌, ◌<◌}
 use native.Mathlib.Omega.{arith}
@@ -9,7 +9,6 @@ use lib.ListN.{length, length-append}
 use lib.Dec.{eqb, leb, ltb}
 use borrow.Author.Tests.{ltb-true, leb-true}
 use Rattle.base.specs.Choice.{pick}
-use Rattle.base.specs.Maybe.{is}
 use Rattle.booking.specs.History.{Byte}
 use Rattle.attribution.specs.Marks.{LogEntry, Log}
 use Rattle.attribution.specs.Origin.{requests, add_byte, sent_by, at_recovery, at_opening}
@@ -23,15 +22,15 @@ abbrev pub Spent : Log → ℕ → Type 0
 Spent l n = (k : ℕ) → k < n → at_recovery l ≤ k → at_opening l ≤ k → 10 ≤ length (sent_by k l)
 
 sent-grows : (k : ℕ) (o : Option ℕ) (b : Option Byte) (bs : List Byte) → length bs ≤ length (add_byte k o b bs)
-sent-grows k o none bs = omega arith
-sent-grows k none (some b) bs = omega arith
-sent-grows k (some j) (some b) bs = go (eqb j k)
+sent-grows k o None bs = omega arith
+sent-grows k None (Some b) bs = omega arith
+sent-grows k (Some j) (Some b) bs = go (eqb j k)
   where
     go : (c : Bool) → length bs ≤ length (pick c (bs ++ b ∷ []) bs)
     go true = simp length-append (omega arith)
     go false = omega arith
 
-module _ (l : Log) (e : LogEntry) (o : e.seen.opening ≡ none) (r : e.seen.requests.recovered ≡ false) where
+module _ (l : Log) (e : LogEntry) (o : e.seen.opening ≡ None) (r : e.seen.requests.recovered ≡ false) where
   pub spent-keeps : (n : ℕ) → Spent l n → Spent (e ∷ l) n
   unfolding sent_by at_recovery at_opening
   spent-keeps n s k a b c =
@@ -39,13 +38,13 @@ module _ (l : Log) (e : LogEntry) (o : e.seen.opening ≡ none) (r : e.seen.requ
       let y = sent-grows k e.origin e.seen.wire.byte (sent_by k l) in
       omega arith
 
-  pub all-spent-keeps : e.seen.requests.granted ≡ none → Spent l (length (requests l)) → Spent (e ∷ l) (length (requests (e ∷ l)))
+  pub all-spent-keeps : e.seen.requests.granted ≡ None → Spent l (length (requests l)) → Spent (e ∷ l) (length (requests (e ∷ l)))
   all-spent-keeps g s = rw (requests-keep l e g) (spent-keeps (length (requests l)) s)
 
 -- what is known of the origin of a byte
 pub record Origin (l : Log) (o : Option ℕ) : Type 0 where
   pub number : ℕ
-  pub known : o ≡ some number
+  pub known : o ≡ Some number
   pub granted : number < length (requests l)
   pub few : length (sent_by number l) < 10
   pub recovered : at_recovery l ≤ number
@@ -68,7 +67,7 @@ module _ (scope : Scope) (l : Log) (e : LogEntry) (w : Wiring scope (e ∷ l)) w
         e5 = before (quiet_opening scope) l e w.e5;
       }
 
-  pub origin : (b : Byte) → e.seen.wire.byte ≡ some b → scope l ≡ true → Origin l e.origin
+  pub origin : (b : Byte) → e.seen.wire.byte ≡ Some b → scope l ≡ true → Origin l e.origin
   origin b x s =
       go e.origin refl
       (rw (x, s) at (now (no_noise scope) l e w.e1))
@@ -78,12 +77,12 @@ module _ (scope : Scope) (l : Log) (e : LogEntry) (w : Wiring scope (e ∷ l)) w
       (rw (x, s) at (now (quiet_opening scope) l e w.e5))
     where
       go : (o : Option ℕ) → e.origin ≡ o
-          → is o ≡ true
+          → is_some o ≡ true
           → of_origin (λ k. ltb k (length (requests l))) o ≡ true
           → of_origin (λ k. ltb (length (sent_by k l)) 10) o ≡ true
           → of_origin (λ k. leb (at_recovery l) k) o ≡ true
           → of_origin (λ k. leb (at_opening l) k) o ≡ true
           → Origin l o
-      go none y e1 e2 e3 e4 e5 = absurd (false≢true e1)
-      go (some k) y e1 e2 e3 e4 e5 =
+      go None y e1 e2 e3 e4 e5 = absurd (false≢true e1)
+      go (Some k) y e1 e2 e3 e4 e5 =
           record { number = k; known = refl; granted = ltb-true _ _ e2; few = ltb-true _ _ e3; recovered = leb-true _ _ e4; opened = leb-true _ _ e5 }

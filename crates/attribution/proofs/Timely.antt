@@ -2,7 +2,7 @@
 -- a new opening too. So of a request before them nothing was heard for the quiet time, and no answer within it is still to come.
 use mathlib.Core.Path.{◌≡◌, refl, sym, ◌∙◌}
 use mathlib.Core.List.{[], ◌∷◌}
-use mathlib.Core.Option.{Option, none, some}
+use Rattle.std.specs.Prelude.{Option, None, Some}
 use mathlib.Core.Bool.{Bool, true, false, ◌||◌, true≢false, false≢true}
 use Prim.Native.Nat.{ℕ, zero, suc, ◌+◌, ◌-◌, ◌*◌, ◌^◌, ◌≤◌, ◌<◌, min, max}
 use native.Mathlib.Omega.{arith}
@@ -50,7 +50,7 @@ module _ (o : Opening) (l : Log) (h : Past) (e : LogEntry) (i : Timely l h o.con
   quiet = o.config.recovery_quiet_ms
 
   -- no grant, no byte, no timeout, no recovery
-  same-timely : (d : Option EscTelemetryUpdate) → Shows e.seen none none d none false → Timely (e ∷ l) (e.seen ∷ h) quiet
+  same-timely : (d : Option EscTelemetryUpdate) → Shows e.seen None None d None false → Timely (e ∷ l) (e.seen ∷ h) quiet
   same-timely d s =
       record {
         granted = rw (earlier-keeps l e s.recovered s.opening, requests-keep l e s.granted) i.granted;
@@ -67,7 +67,7 @@ module _ (o : Opening) (l : Log) (h : Past) (e : LogEntry) (i : Timely l h o.con
 
   -- a grant is not of an earlier request
   grant-timely : (q : EscActuatorRequest) → faulted h ≡ false
-      → Shows e.seen (some (record { request = q; at = e.seen.now })) none none none false → Timely (e ∷ l) (e.seen ∷ h) quiet
+      → Shows e.seen (Some (record { request = q; at = e.seen.now })) None None None false → Timely (e ∷ l) (e.seen ∷ h) quiet
   unfolding requests
   grant-timely q f s =
       record {
@@ -93,8 +93,8 @@ module _ (o : Opening) (l : Log) (h : Past) (e : LogEntry) (i : Timely l h o.con
           rw (now-heard k, z) (omega (arith, i.rested f k y, clock-grows l e))
 
   -- a byte moves the quiet start while faulted, and else is not of an earlier request
-  byte-timely : (b : ℕ) (d : Option EscTelemetryUpdate) → e.seen.requests.acknowledged ≡ none
-      → Shows e.seen none (some (record { value = b; at = e.seen.now })) d none false → Timely (e ∷ l) (e.seen ∷ h) quiet
+  byte-timely : (b : ℕ) (d : Option EscTelemetryUpdate) → e.seen.requests.acknowledged ≡ None
+      → Shows e.seen None (Some (record { value = b; at = e.seen.now })) d None false → Timely (e ∷ l) (e.seen ∷ h) quiet
   unfolding quiet_since
   byte-timely b d a s =
       record {
@@ -110,15 +110,15 @@ module _ (o : Opening) (l : Log) (h : Past) (e : LogEntry) (i : Timely l h o.con
       still : faulted (e.seen ∷ h) ≡ faulted h
       still = fault-keeps h e.seen s.timeout s.recovered
 
-      now-heard : (k : ℕ) → last_heard k (e ∷ l) ≡ byte_at k e.origin (some t) (last_heard k l)
+      now-heard : (k : ℕ) → last_heard k (e ∷ l) ≡ byte_at k e.origin (Some t) (last_heard k l)
       now-heard k = heard-byte l e k t s.granted s.byte
 
       mark : stamped e.seen ≡ true
       mark = stamped-byte e.seen t s.byte
 
-      heard-by : (k : ℕ) (o : Option ℕ) → byte_at k o (some t) (last_heard k l) ≤ clock_at (e ∷ l)
-      heard-by k none = omega (arith, i.heard k, clock-grows l e)
-      heard-by k (some j) = go (eqb j k)
+      heard-by : (k : ℕ) (o : Option ℕ) → byte_at k o (Some t) (last_heard k l) ≤ clock_at (e ∷ l)
+      heard-by k None = omega (arith, i.heard k, clock-grows l e)
+      heard-by k (Some j) = go (eqb j k)
         where
           go : (z : Bool) → pick z e.seen.now (last_heard k l) ≤ clock_at (e ∷ l)
           go true = clock-now l e mark
@@ -127,17 +127,17 @@ module _ (o : Opening) (l : Log) (h : Past) (e : LogEntry) (i : Timely l h o.con
       moved : faulted h ≡ true → quiet_since (e.seen ∷ h) ≡ max (quiet_since h) e.seen.now
       moved f = rw (s.timeout, a, s.byte, f)
 
-      waits-by : (k : ℕ) (o : Option ℕ) → faulted h ≡ true → byte_at k o (some t) (last_heard k l) ≤ quiet_since (e.seen ∷ h)
-      waits-by k none f = rw (moved f) (omega (arith, i.waits f k))
-      waits-by k (some j) f = rw (moved f) (go (eqb j k))
+      waits-by : (k : ℕ) (o : Option ℕ) → faulted h ≡ true → byte_at k o (Some t) (last_heard k l) ≤ quiet_since (e.seen ∷ h)
+      waits-by k None f = rw (moved f) (omega (arith, i.waits f k))
+      waits-by k (Some j) f = rw (moved f) (go (eqb j k))
         where
           go : (z : Bool) → pick z e.seen.now (last_heard k l) ≤ max (quiet_since h) e.seen.now
           go true = omega arith
           go false = omega (arith, i.waits f k)
 
-      rested-by : (k : ℕ) (o : Option ℕ) → e.origin ≡ o → faulted h ≡ false → k < earlier l → byte_at k o (some t) (last_heard k l) + quiet ≤ clock_at (e ∷ l)
-      rested-by k none x f y = omega (arith, i.rested f k y, clock-grows l e)
-      rested-by k (some j) x f y = go (eqb j k) refl
+      rested-by : (k : ℕ) (o : Option ℕ) → e.origin ≡ o → faulted h ≡ false → k < earlier l → byte_at k o (Some t) (last_heard k l) + quiet ≤ clock_at (e ∷ l)
+      rested-by k None x f y = omega (arith, i.rested f k y, clock-grows l e)
+      rested-by k (Some j) x f y = go (eqb j k) refl
         where
           go : (z : Bool) → eqb j k ≡ z → pick z e.seen.now (last_heard k l) + quiet ≤ clock_at (e ∷ l)
           go true z =
@@ -146,7 +146,7 @@ module _ (o : Opening) (l : Log) (h : Past) (e : LogEntry) (i : Timely l h o.con
           go false z = omega (arith, i.rested f k y, clock-grows l e)
 
   -- a timeout starts the quiet time after all that was heard
-  timeout-timely : (t : EscManagerTimeout) → Shows e.seen none none none (some t) false → Timely (e ∷ l) (e.seen ∷ h) quiet
+  timeout-timely : (t : EscManagerTimeout) → Shows e.seen None None None (Some t) false → Timely (e ∷ l) (e.seen ∷ h) quiet
   unfolding quiet_since faulted
   timeout-timely t s =
       record {
@@ -163,7 +163,7 @@ module _ (o : Opening) (l : Log) (h : Past) (e : LogEntry) (i : Timely l h o.con
       begins = rw s.timeout
 
   -- a recovery comes the quiet time after all that was heard
-  recovery-timely : faulted h ≡ true → quiet * 2 ^ min (retries h) 3 ≤ e.seen.now - quiet_since h → Shows e.seen none none none none true
+  recovery-timely : faulted h ≡ true → quiet * 2 ^ min (retries h) 3 ≤ e.seen.now - quiet_since h → Shows e.seen None None None None true
       → Timely (e ∷ l) (e.seen ∷ h) quiet
   unfolding faulted at_recovery at_opening
   recovery-timely f w s =
@@ -191,7 +191,7 @@ module _ (o : Opening) (l : Log) (h : Past) (e : LogEntry) (i : Timely l h o.con
       rested-by k (suc q) z = omega (arith, i.waits f k, at_least, w, now-in, z)
 
   timely-step : Step o h e.seen → Timely (e ∷ l) (e.seen ∷ h) quiet
-  timely-step (plain s) = same-timely none s
+  timely-step (plain s) = same-timely None s
   timely-step (grants q f s) = grant-timely q f.calm s
   timely-step (takes b a s) = byte-timely b _ a s
   timely-step (answers q s) = same-timely _ s
@@ -203,7 +203,7 @@ TimelySince l s = Timely l (past_of s) (quiet_of s)
 
 -- an opening comes the quiet time after all that was heard, unless nothing was asked
 timely-new : (l : Log) (s : Option Since) → TimelySince l s → (c : EscManagerConfig) (t : ℕ) (o : Option ℕ)
-    → waits_for l (some (record { config = c; boot = t })) ≡ true
+    → waits_for l (Some (record { config = c; boot = t })) ≡ true
     → Timely (opening_of c t o ∷ l) [] c.recovery_quiet_ms
 unfolding faulted requests at_recovery at_opening last_heard latest_t
 timely-new l s i c t o w =

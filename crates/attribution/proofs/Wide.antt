@@ -1,7 +1,7 @@
 -- In calls of bytes each T is less than 2^64, since eight bytes spell it.
 use mathlib.Core.Path.{◌≡◌, refl, subst}
 use mathlib.Core.List.{List, [], ◌∷◌, ◌++◌}
-use mathlib.Core.Option.{Option}
+use Rattle.std.specs.Prelude.{Option}
 use mathlib.Core.Bool.{Bool, true, false, ◌&&◌}
 use Prim.Native.Nat.{ℕ, zero, suc, ◌^◌, ◌<◌, max}
 use native.Mathlib.Omega.{arith}

@@ -2,7 +2,8 @@
 -- since the latest 02 answered yes.
 use mathlib.Core.Path.{◌≡◌, refl, sym, ◌∙◌, ap, subst}
 use mathlib.Core.List.{List, [], ◌∷◌, ◌++◌, append_assoc, append-nil, map-append}
-use mathlib.Core.Option.{Option, none, some, none-ne-some, some-injective}
+use Rattle.std.specs.Prelude.{Option, None, Some}
+use Rattle.std.proofs.lemmas.Option.{none-some, same_Some}
 use Prim.Native.Nat.{ℕ, zero, suc}
 use lib.ListN.{length, length-map}
 use Rattle.blheli_telemetry.specs.Crc.{crc_of}
@@ -23,7 +24,7 @@ use Rattle.attribution.proofs.WireSteps.{wire-more, clean-keeps, frame-none, fra
 -- each request is granted on a clean wire
 abbrev pub CleanGrants : Log → Type 0
 CleanGrants [] = Unit {0}
-CleanGrants (e ∷ l) = ((g : Timed) → e.seen.requests.granted ≡ some g → Clean (wire (past l))) × CleanGrants l
+CleanGrants (e ∷ l) = ((g : Timed) → e.seen.requests.granted ≡ Some g → Clean (wire (past l))) × CleanGrants l
 
 -- the last bytes taken in have these values
 record EndsWith (ts : List Arrival) (bs : List ℕ) : Type 0 where
@@ -40,38 +41,38 @@ pub record ReadFrom (ts : List Arrival) (f : Frame) : Type 0 where
   pub when : ten.tenth.byte.at ≡ f.at
 
 pub record Within (ts : List Arrival) (h : Past) : Type 0 where
-  holds : (n : ℕ) (bs : List ℕ) → latest (wire h) n ≡ some bs → EndsWith ts bs
-  pub frame : (f : Frame) → latest_frame h ≡ some f → ReadFrom ts f
+  holds : (n : ℕ) (bs : List ℕ) → latest (wire h) n ≡ Some bs → EndsWith ts bs
+  pub frame : (f : Frame) → latest_frame h ≡ Some f → ReadFrom ts f
 
-no_bytes-none : (ts : List Arrival) (w : List OnWire) (bs : List ℕ) → latest w 0 ≡ some bs → EndsWith ts bs
-no_bytes-none ts w bs e = record { last = []; same = some-injective _ _ (sym (latest-none w) ∙ e); before = ts; place = sym (append-nil ts) }
+no_bytes-none : (ts : List Arrival) (w : List OnWire) (bs : List ℕ) → latest w 0 ≡ Some bs → EndsWith ts bs
+no_bytes-none ts w bs e = record { last = []; same = same_Some _ _ (sym (latest-none w) ∙ e); before = ts; place = sym (append-nil ts) }
 
 -- a clean wire holds nothing
-holds-nothing : (ts : List Arrival) (w : List OnWire) → Clean w → (n : ℕ) (bs : List ℕ) → latest w n ≡ some bs → EndsWith ts bs
+holds-nothing : (ts : List Arrival) (w : List OnWire) → Clean w → (n : ℕ) (bs : List ℕ) → latest w n ≡ Some bs → EndsWith ts bs
 holds-nothing ts w c zero bs e = no_bytes-none ts w bs e
-holds-nothing ts w c (suc n) bs e = absurd (none-ne-some bs (sym (clean-more w n c) ∙ e))
+holds-nothing ts w c (suc n) bs e = absurd (none-some bs (sym (clean-more w n c) ∙ e))
 
 pub within-nothing : (ts : List Arrival) → Within ts []
 unfolding wire latest latest_frame
-within-nothing ts = record { holds = holds-nothing ts [] refl; frame = λ f x. absurd (none-ne-some f x) }
+within-nothing ts = record { holds = holds-nothing ts [] refl; frame = λ f x. absurd (none-some f x) }
 
 module _ (o : Opening) (l : Log) (h : Past) (e : LogEntry) (i : Within (taken_since l) h) where
   -- a grant: no byte came in since
-  grant-within : (g : Timed) → e.seen.requests.granted ≡ some g → Clean (wire (e.seen ∷ h)) → Within (taken_since (e ∷ l)) (e.seen ∷ h)
+  grant-within : (g : Timed) → e.seen.requests.granted ≡ Some g → Clean (wire (e.seen ∷ h)) → Within (taken_since (e ∷ l)) (e.seen ∷ h)
   grant-within g x c =
       record {
         holds = holds-nothing (taken_since (e ∷ l)) (wire (e.seen ∷ h)) c;
-        frame = λ f y. absurd (none-ne-some f (sym (frame-none h e g x) ∙ y));
+        frame = λ f y. absurd (none-some f (sym (frame-none h e g x) ∙ y));
       }
 
-  module _ (g : e.seen.requests.granted ≡ none) where
-    same-within : e.seen.wire.byte ≡ none → Within (taken_since (e ∷ l)) (e.seen ∷ h)
+  module _ (g : e.seen.requests.granted ≡ None) where
+    same-within : e.seen.wire.byte ≡ None → Within (taken_since (e ∷ l)) (e.seen ∷ h)
     same-within b =
         rw (since-same l e g b)
         (record { holds = λ n bs x. i.holds n bs (latest-same h e b n bs x); frame = λ f x. i.frame f (sym (frame_same h e g b) ∙ x) })
 
     -- one byte more
-    module _ (b : Byte) (x : e.seen.wire.byte ≡ some b) where
+    module _ (b : Byte) (x : e.seen.wire.byte ≡ Some b) where
       abbrev t : Arrival
       t = record { byte = b; origin = e.origin }
 
@@ -81,7 +82,7 @@ module _ (o : Opening) (l : Log) (h : Past) (e : LogEntry) (i : Within (taken_si
       values-more : (s : List Arrival) → values_of (s ++ t ∷ []) ≡ values_of s ++ b.value ∷ []
       values-more s = map-append _ s (t ∷ [])
 
-      holds_more : (n : ℕ) (bs : List ℕ) → latest (wire (e.seen ∷ h)) n ≡ some bs → EndsWith ts bs
+      holds_more : (n : ℕ) (bs : List ℕ) → latest (wire (e.seen ∷ h)) n ≡ Some bs → EndsWith ts bs
       holds_more zero bs z = no_bytes-none ts (wire (e.seen ∷ h)) bs z
       holds_more (suc n) bs z =
           let w = extends (wire h) b.value n bs (ap (λ (w : List OnWire). latest w (suc n)) (sym (wire-more h e b x)) ∙ z) in
@@ -94,7 +95,7 @@ module _ (o : Opening) (l : Log) (h : Past) (e : LogEntry) (i : Within (taken_si
           }
 
       -- a frame end: its ten bytes are the last
-      new-frame : (f : List ℕ) → frame_at (wire h) b.value ≡ some f → ReadFrom ts (record { bytes = f; at = b.at })
+      new-frame : (f : List ℕ) → frame_at (wire h) b.value ≡ Some f → ReadFrom ts (record { bytes = f; at = b.at })
       new-frame f y =
           let w = ended (wire h) b.value f y in
           let k = i.holds 9 w.nine w.before in
@@ -124,11 +125,11 @@ module _ (o : Opening) (l : Log) (h : Past) (e : LogEntry) (i : Within (taken_si
       more_within : Within (taken_since (e ∷ l)) (e.seen ∷ h)
       more_within = rw (since-more l e g b x) (record { holds = holds_more; frame = go (frame_at (wire h) b.value) refl })
         where
-          go : (y : Option (List ℕ)) → frame_at (wire h) b.value ≡ y → (f : Frame) → latest_frame (e.seen ∷ h) ≡ some f → ReadFrom ts f
-          go (some y) z f w = subst (ReadFrom ts) (some-injective _ _ (sym (latest-now h e g b x y z) ∙ w)) (new-frame y z)
-          go none z f w = old-frame f (i.frame f (sym (frame-other h e g b x z) ∙ w))
+          go : (y : Option (List ℕ)) → frame_at (wire h) b.value ≡ y → (f : Frame) → latest_frame (e.seen ∷ h) ≡ Some f → ReadFrom ts f
+          go (Some y) z f w = subst (ReadFrom ts) (same_Some _ _ (sym (latest-now h e g b x y z) ∙ w)) (new-frame y z)
+          go None z f w = old-frame f (i.frame f (sym (frame-other h e g b x z) ∙ w))
 
-  pub step-within : ((g : Timed) → e.seen.requests.granted ≡ some g → Clean (wire h)) → Step o h e.seen → Within (taken_since (e ∷ l)) (e.seen ∷ h)
+  pub step-within : ((g : Timed) → e.seen.requests.granted ≡ Some g → Clean (wire h)) → Step o h e.seen → Within (taken_since (e ∷ l)) (e.seen ∷ h)
   step-within clean (plain s) = same-within s.granted s.byte
   step-within clean (grants q f s) = grant-within _ s.granted (clean-keeps h e s.byte (clean _ s.granted))
   step-within clean (takes b a s) = more_within s.granted _ s.byte

@@ -1,6 +1,6 @@
 -- Times in a log: the T of each request's 02, and a clock that does not fall.
 use Rattle.std.specs.Prelude.{ℕ, max, Bool, not, ◌||◌, [], ◌∷◌, eqb, leb, length}
-use Rattle.std.proofs.Math.Option.{Option, none, some}
+use Rattle.std.specs.Prelude.{Option, None, Some}
 use Rattle.base.specs.Choice.{pick}
 use Rattle.booking.specs.History.{Timed, Seen}
 use Rattle.attribution.specs.Marks.{Log}
@@ -17,8 +17,8 @@ abbrev pub steady : (Seen → Bool) → EntryTest
 steady kinds l e = not (kinds e.seen) || leb (latest_t kinds l) e.seen.now
 
 abbrev pub grant_at : ℕ → ℕ → Option Timed → ℕ → ℕ
-grant_at k number none t = t
-grant_at k number (some g) t = pick (eqb number k) g.at t
+grant_at k number None t = t
+grant_at k number (Some g) t = pick (eqb number k) g.at t
 
 -- the T of the 02 of request k, once it was granted
 unfoldable pub queued_at : ℕ → Log → ℕ

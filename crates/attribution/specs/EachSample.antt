@@ -1,6 +1,6 @@
 -- What is claimed of each delivered sample.
 use Rattle.std.specs.Prelude.{◌≡◌, List, ◌∷◌, ◌++◌}
-use Rattle.std.proofs.Math.Option.{some}
+use Rattle.std.specs.Prelude.{Some}
 use Rattle.esc_lanes.specs.declared.request.EscActuatorRequest.{EscActuatorRequest}
 use Rattle.esc_lanes.specs.declared.request.EscTelemetryUpdate.{EscTelemetryUpdate}
 use Rattle.attribution.specs.Marks.{Marked, LogEntry, Log, log_after}
@@ -14,6 +14,6 @@ abbrev pub OfEachSample : (Log → Type 0) → (Log → EscTelemetryUpdate → T
 OfEachSample Assumed Claim ms =
     (later : Log) (e : LogEntry) (l : Log) (u : EscTelemetryUpdate)
     → log_after ms ≡ later ++ e ∷ l
-    → e.seen.requests.delivered ≡ some u
+    → e.seen.requests.delivered ≡ Some u
     → Assumed (e ∷ l)
     → Claim (e ∷ l) u

@@ -1,6 +1,6 @@
 -- Calls with a mark that the unit never sees: whose bytes they are. And the log: what was accepted over a whole list, with the marks.
 use Rattle.std.specs.Prelude.{ℕ, List, [], ◌∷◌, map}
-use Rattle.std.proofs.Math.Option.{Option, none}
+use Rattle.std.specs.Prelude.{Option, None}
 use Rattle.base.specs.Reply.{Reply, accepted, refused}
 use Rattle.esc_records.specs.Record.{read_record}
 use Rattle.esc_unit.specs.Unit.{never_opened, call_of}
@@ -67,7 +67,7 @@ log_after ms = log_of (run_marked ms)
 
 -- the latest 00 in a log, and what came after it
 unfoldable pub since_in : Log → Option Since
-since_in [] = none
+since_in [] = None
 since_in (e ∷ l) = then e.seen.opening e.seen (since_in l)
 
 abbrev pub past : Log → Past

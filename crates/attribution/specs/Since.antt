@@ -1,16 +1,15 @@
 -- The bytes taken in since the latest 02 answered yes, and ten of them that are a frame.
 use Rattle.std.specs.Prelude.{ℕ, ◌≡◌, Bool, true, ◌&&◌, List, [], ◌∷◌, ◌++◌, map, length}
-use Rattle.std.proofs.Math.Option.{Option}
+use Rattle.std.specs.Prelude.{Option, is_some}
 use Rattle.base.specs.Choice.{pick}
 use Rattle.blheli_telemetry.specs.Crc.{crc_of}
-use Rattle.base.specs.Maybe.{is}
 use Rattle.attribution.specs.Marks.{Log}
 use Rattle.attribution.specs.Origin.{Arrival, arrival_in}
 
 -- oldest first; all bytes, where no 02 was answered yes
 unfoldable pub taken_since : Log → List Arrival
 taken_since [] = []
-taken_since (e ∷ l) = pick (is e.seen.requests.granted) [] (taken_since l ++ arrival_in e.origin e.seen.wire.byte)
+taken_since (e ∷ l) = pick (is_some e.seen.requests.granted) [] (taken_since l ++ arrival_in e.origin e.seen.wire.byte)
 
 abbrev pub values_of : List Arrival → List ℕ
 values_of ts = map (λ (t : Arrival). t.byte.value) ts

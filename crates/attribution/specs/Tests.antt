@@ -1,6 +1,6 @@
 -- A test that each entry of a log passes.
 use Rattle.std.specs.Prelude.{ℕ, Bool, true, ◌&&◌, [], ◌∷◌}
-use Rattle.std.proofs.Math.Option.{Option, none, some}
+use Rattle.std.specs.Prelude.{Option, None, Some}
 use Rattle.attribution.specs.Marks.{LogEntry, Log}
 
 -- a test on an entry, given the log before it
@@ -13,5 +13,5 @@ always t (e ∷ l) = t l e && always t l
 
 -- noise passes
 abbrev pub of_origin : (ℕ → Bool) → Option ℕ → Bool
-of_origin test none = true
-of_origin test (some k) = test k
+of_origin test None = true
+of_origin test (Some k) = test k

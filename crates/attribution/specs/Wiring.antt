@@ -1,7 +1,6 @@
 -- The five assumptions on the wire, each of bytes taken in and their origins. Losses, values and cuts are free.
 use Rattle.std.specs.Prelude.{ℕ, ◌≡◌, Bool, true, not, ◌&&◌, ◌||◌, leb, ltb, length}
-use Rattle.std.proofs.Math.Option.{Option}
-use Rattle.base.specs.Maybe.{is}
+use Rattle.std.specs.Prelude.{Option, is_some}
 use Rattle.booking.specs.Faults.{faulted}
 use Rattle.attribution.specs.Marks.{Log, past}
 use Rattle.attribution.specs.Origin.{requests, sent_by, at_recovery, at_opening}
@@ -16,11 +15,11 @@ abbrev pub while_no_fault : Scope
 while_no_fault l = not (faulted (past l))
 
 abbrev pub of_each_byte : Scope → (Option ℕ → Bool) → EntryTest
-of_each_byte scope test l e = not (is e.seen.wire.byte && scope l) || test e.origin
+of_each_byte scope test l e = not (is_some e.seen.wire.byte && scope l) || test e.origin
 
 -- E1, no noise: a byte has an origin
 abbrev pub no_noise : Scope → EntryTest
-no_noise scope l e = of_each_byte scope is l e
+no_noise scope l e = of_each_byte scope is_some l e
 
 -- E2, asked first: its origin was granted before it
 abbrev pub asked_first : Scope → EntryTest

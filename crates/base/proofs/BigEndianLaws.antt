@@ -1,25 +1,13 @@
 -- Numbers highest byte first: their bytes, and writing these over a buffer one after the other.
 use Rattle.std.proofs.Common.{◌≡◌, ℕ, zero, suc, ◌+◌, ◌*◌, ◌/◌, ◌%◌, ◌^◌, ◌<◌, ◌≤◌, List, [], ◌∷◌, ◌++◌, length, get_or, take, drop, set, sym, refl, ◌∙◌}
-use Rattle.std.proofs.Common.{append_assoc, add-zero, add_assoc, add-suc, zero-add, add-one, arith, length-append, length-drop, length-set, length-take}
+use Rattle.std.proofs.Common.{append_assoc, add_assoc, add-suc, add-one, arith, length-append, length-drop, length-set, length-take}
 use Rattle.std.proofs.Common.{get_or-drop, take-suc, drop-drop, take_at}
 use lib.Seq.{drop-append-add, set_split}
 use Rattle.base.specs.BigEndian.{number_at, bytes_of, overwrite}
 
-pub number-one : (s : List ℕ) (at : ℕ) → number_at 1 s at ≡ get_or s at 0
-unfolding number_at
-number-one s at = simp (add-zero, zero-add)
-
-pub number-two : (s : List ℕ) (at : ℕ) → number_at 2 s at ≡ get_or s at 0 * 256 + get_or s (at + 1) 0
-unfolding number_at
-number-two s at = simp (add-zero, zero-add)
-
 pub bytes_one : (v : ℕ) → v < 256 → bytes_of 1 v ≡ v ∷ []
 unfolding bytes_of
 bytes_one v h = let e : v % 256 ≡ v = omega arith in rw e
-
-pub bytes-two : (v : ℕ) → v < 65536 → bytes_of 2 v ≡ v / 256 ∷ v % 256 ∷ []
-unfolding bytes_of
-bytes-two v h = let e : v / 256 % 256 ≡ v / 256 = omega arith in rw e
 
 -- what k bytes spell is spelt by those bytes again, at every width
 pub bytes-number : (k : ℕ) (s : List ℕ) (at : ℕ) → ((i : ℕ) → get_or s i 0 < 256) → at + k ≤ length s → bytes_of k (number_at k s at) ≡ take k (drop at s)

@@ -1,22 +1,17 @@
 -- Words on what may be missing.
-use Rattle.std.specs.Prelude.{Bool, true, false}
-use Rattle.std.proofs.Math.Option.{Option, none, some}
-
-abbrev pub is : {A : Type 0} → Option A → Bool
-is none = false
-is (some x) = true
+use Rattle.std.specs.Prelude.{Bool, true, false, Option, None, Some}
 
 -- the newer, or else the older
 abbrev pub or_else : {A : Type 0} → Option A → Option A → Option A
-or_else none old = old
-or_else (some new) old = some new
+or_else None old = old
+or_else (Some new) old = Some new
 
 -- the older, or else the newer
 abbrev pub earliest : {A : Type 0} → Option A → Option A → Option A
-earliest none old = old
-earliest (some new) none = some new
-earliest (some new) (some old) = some old
+earliest None old = old
+earliest (Some new) None = Some new
+earliest (Some new) (Some old) = Some old
 
 abbrev pub only_if : {A : Type 0} → Bool → Option A → Option A
 only_if true x = x
-only_if false x = none
+only_if false x = None

@@ -6,5 +6,5 @@ ghost use Rattle.base.specs.Saturated.{saturated};
 pub fn saturating_inc(count: u32) -> u32
     ensures { result ≡ saturated count }
 {
-    if count < 4294967295 { count + 1 } else { count }
+    count.saturating_add(1)
 }

@@ -1,5 +1,6 @@
 -- Document 01's 'Cases for the proved table' that speak of the CRC and the frame, and the frame's layout by a frame in which no two
 -- bytes are equal: of the rules themselves, by computation.
+use Rattle.std.specs.Prelude.{Some, None}
 use mathlib.Core.Path.{◌≡◌, refl}
 use mathlib.Core.List.{List, [], ◌∷◌, ◌++◌}
 use Prim.Native.Nat.{ℕ}
@@ -10,7 +11,6 @@ use Rattle.blheli_telemetry.specs.Crc.{crc_bit, crc_bits, crc_byte, crc_from, cr
 use Rattle.blheli_telemetry.specs.Frame.{telemetry_of, payload_of, frame_of, read_frame}
 use Rattle.blheli_telemetry.specs.Stream.{given_after, held_after, parsed_from}
 use Rattle.blheli_telemetry.specs.declared.frame.EscTelemetry.{EscTelemetry}
-use Rattle.blheli_telemetry.specs.declared.parser.Parsed.TheVariants.{Sample, Nothing}
 
 -- a sample of nothing but speed
 abbrev turning : ℕ → EscTelemetry
@@ -43,9 +43,9 @@ pub record FrameCases : Type 0 where
   pub crc-80 : crc_of (0x80 ∷ []) ≡ 0x89
   pub crc-digits : crc_of (0x31 ∷ 0x32 ∷ 0x33 ∷ 0x34 ∷ 0x35 ∷ 0x36 ∷ 0x37 ∷ 0x38 ∷ 0x39 ∷ []) ≡ 0xf4
   -- from empty: ten 00 are a frame; eight 00, 1e, 5a give eRPM/100 30; with 5b no frame
-  pub ten-zeros : parsed_from [] (replicate 10 0x00) ≡ replicate 9 Nothing ++ Sample (turning 0) ∷ []
-  pub erpm-30 : parsed_from [] (replicate 8 0x00 ++ 0x1e ∷ 0x5a ∷ []) ≡ replicate 9 Nothing ++ Sample (turning 30) ∷ []
-  pub bad-check : parsed_from [] (replicate 8 0x00 ++ 0x1e ∷ 0x5b ∷ []) ≡ replicate 10 Nothing
+  pub ten-zeros : parsed_from [] (replicate 10 0x00) ≡ replicate 9 None ++ Some (turning 0) ∷ []
+  pub erpm-30 : parsed_from [] (replicate 8 0x00 ++ 0x1e ∷ 0x5a ∷ []) ≡ replicate 9 None ++ Some (turning 30) ∷ []
+  pub bad-check : parsed_from [] (replicate 8 0x00 ++ 0x1e ∷ 0x5b ∷ []) ≡ replicate 10 None
   -- ten bytes: temperature; then voltage, current, consumption, eRPM divided by 100, each 16 bits; then CRC-8 of the nine
   pub layout-read : read_frame ten_bytes ≡ accepted five_fields
   pub layout-written : frame_of five_fields ≡ ten_bytes

@@ -72,15 +72,7 @@ pub short-reply : (out : List ℕ) → length out < 10 → frame_reply out ≡ r
 unfolding frame_reply
 short-reply out h = rw (lt-leb _ _ h)
 
-pub short-kept : (t : EscTelemetry) (out : List ℕ) → length out < 10 → frame_written t out ≡ out
-unfolding frame_written
-short-kept t out h = rw (lt-leb _ _ h)
-
 module _ (t : EscTelemetry) (out : List ℕ) (room : 10 ≤ length out) where
-  pub room-reply : frame_reply out ≡ accepted tt
-  unfolding frame_reply
-  room-reply = rw (le-leb _ _ room)
-
   -- the check byte after the payload makes the frame
   pub room-written : set (overwrite 0 (payload_of t) out) 9 (crc_of (payload_of t)) ≡ frame_written t out
   unfolding frame_written frame_of

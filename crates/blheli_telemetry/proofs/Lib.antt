@@ -3,7 +3,6 @@
 pub mod CrcTable
 pub mod CrcLaws
 pub mod FrameLaws
-pub mod DecodedLaws
 pub mod ParserLaws
 pub mod CaptureLaws
 pub mod StreamLaws

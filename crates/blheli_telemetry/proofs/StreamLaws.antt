@@ -1,4 +1,5 @@
 -- What a parser gives, and what it then holds, goes by the bytes that it holds alone: not by stale bytes, nor by its counts.
+use Rattle.std.specs.Prelude.{Option, Some, None}
 use mathlib.Core.Path.{◌≡◌, refl, ap, sym, ◌∙◌}
 use mathlib.Core.List.{List, [], ◌∷◌, ◌++◌}
 use Prim.Native.Nat.{ℕ, suc, ◌+◌, ◌<◌, ◌≤◌, min}
@@ -13,8 +14,6 @@ use Rattle.blheli_telemetry.specs.Parser.{counted_good, counted_bad, shifted_dow
 use Rattle.blheli_telemetry.specs.Stream.{held, sample_given, held_on, tallied, given_after, held_after, counted_after, parsed_from, parsed_by}
 use Rattle.blheli_telemetry.specs.declared.frame.EscTelemetry.{EscTelemetry}
 use Rattle.blheli_telemetry.specs.declared.parser.ParserStats.{ParserStats}
-use Rattle.blheli_telemetry.specs.declared.parser.Parsed.{Parsed}
-use Rattle.blheli_telemetry.specs.declared.parser.Parsed.TheVariants.{Sample, Nothing}
 use Rattle.blheli_telemetry.specs.declared.parser.StreamParser.{StreamParser}
 use Rattle.base.proofs.ByCases.{below_or_not}
 use Rattle.blheli_telemetry.proofs.FrameLaws.{read-good, read-bad}
@@ -106,14 +105,14 @@ module _ (p : StreamParser) (b : ℕ) (ten : length p.bytes ≡ 10) where
       (λ h. rw (push-tenth p b (le-ltb _ _ h)) (completed-ten (set p.bytes 9 b) p.stats (read_frame (set p.bytes 9 b)) (simp length-set ten)))
 
 -- what a byte brings out, leaves and counts
-pub record Way (xs : List ℕ) (b : ℕ) (g : Parsed) (h : List ℕ) (c : ParserStats → ParserStats) : Type 0 where
+pub record Way (xs : List ℕ) (b : ℕ) (g : Option EscTelemetry) (h : List ℕ) (c : ParserStats → ParserStats) : Type 0 where
   pub gives : given_after xs b ≡ g
   pub holds : held_after xs b ≡ h
   pub counts : (s : ParserStats) → counted_after xs b s ≡ c s
 
 -- the three ways: few are held, the tenth is the CRC of the nine, or it is not
 module _ (xs : List ℕ) (b : ℕ) where
-  pub few-held : length xs < 9 → Way xs b Nothing (xs ++ b ∷ []) (λ s. s)
+  pub few-held : length xs < 9 → Way xs b None (xs ++ b ∷ []) (λ s. s)
   unfolding given_after held_after counted_after
   few-held h = record { gives = rw (lt-ltb _ _ h); holds = rw (lt-ltb _ _ h); counts = λ s. rw (lt-ltb _ _ h) }
 
@@ -130,14 +129,14 @@ module _ (xs : List ℕ) (b : ℕ) where
     full : 9 ≤ length xs
     full = omega arith
 
-    pub frame-end : crc_of xs ≡ b → Way xs b (Sample (telemetry_of (xs ++ b ∷ []))) [] counted_good
+    pub frame-end : crc_of xs ≡ b → Way xs b (Some (telemetry_of (xs ++ b ∷ []))) [] counted_good
     unfolding given_after held_after counted_after
     frame-end good =
         let r : read_frame (xs ++ b ∷ []) ≡ accepted (telemetry_of (xs ++ b ∷ [])) =
         read-good (xs ++ b ∷ []) ten-bytes (checks ∙ good ∙ sym tenth-byte) in
         record { gives = rw (le-ltb _ _ full, r); holds = rw (le-ltb _ _ full, r); counts = λ s. rw (le-ltb _ _ full, r) }
 
-    pub wrong-check : (crc_of xs ≡ b → ⊥) → Way xs b Nothing (drop 1 (xs ++ b ∷ [])) counted_bad
+    pub wrong-check : (crc_of xs ≡ b → ⊥) → Way xs b None (drop 1 (xs ++ b ∷ [])) counted_bad
     unfolding given_after held_after counted_after
     wrong-check bad =
         let r : read_frame (xs ++ b ∷ []) ≡ refused 10 =

@@ -5,10 +5,6 @@ use Rattle.base.specs.Reply.{Reply, accepted, refused}
 use Rattle.base.specs.BigEndian.{number_at, bytes_of, overwrite}
 use Rattle.blheli_telemetry.specs.Crc.{crc_of}
 use Rattle.blheli_telemetry.specs.declared.frame.EscTelemetry.{EscTelemetry}
-use Rattle.blheli_telemetry.specs.declared.frame.Decoded.{Decoded}
-use Rattle.blheli_telemetry.specs.declared.frame.Decoded.TheVariants as decode
-use Rattle.blheli_telemetry.specs.declared.frame.Encoded.{Encoded}
-use Rattle.blheli_telemetry.specs.declared.frame.Encoded.TheVariants as encode
 
 -- temperature in °C, voltage in 0.01 V, current in 0.01 A, consumption in mAh, eRPM / 100: where each stands
 unfoldable pub telemetry_of : List ℕ → EscTelemetry
@@ -47,16 +43,6 @@ frame_reply out = pick (leb 10 (length out)) (accepted tt) (refused 9)
 -- the lent output afterwards: the frame from its first entry on, and the rest as found; all as found where it is refused
 unfoldable pub frame_written : EscTelemetry → List ℕ → List ℕ
 frame_written t out = pick (leb 10 (length out)) (overwrite 0 (frame_of t) out) out
-
--- document 01's number and values for each answer of `decode` and of `encode`
-abbrev pub decoded : Decoded → Reply EscTelemetry
-decoded (decode.Telemetry t) = accepted t
-decoded decode.Length = refused 5
-decoded decode.Crc = refused 10
-
-abbrev pub encoded : Encoded → Reply (Unit {0})
-encoded encode.Written = accepted tt
-encoded encode.Space = refused 9
 
 -- the values that the fields' types have
 pub record Ranged (t : EscTelemetry) : Type 0 where

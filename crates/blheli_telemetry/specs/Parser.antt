@@ -1,11 +1,10 @@
 -- The parser's calls, each as the whole parser that it leaves and what it gives (document 01, 'Frame').
-use Rattle.std.specs.Prelude.{ℕ, ◌+◌, List, ◌++◌, ltb, set, take, drop, replicate}
+use Rattle.std.specs.Prelude.{Some, None, ℕ, ◌+◌, List, ◌++◌, ltb, set, take, drop, replicate}
 use Rattle.base.specs.Choice.{pick}
 use Rattle.base.specs.Saturated.{saturated}
 use Rattle.base.specs.Reply.{Reply, accepted, refused}
 use Rattle.blheli_telemetry.specs.Frame.{read_frame}
 use Rattle.blheli_telemetry.specs.declared.frame.EscTelemetry.{EscTelemetry}
-use Rattle.blheli_telemetry.specs.declared.parser.Parsed.TheVariants.{Sample, Nothing}
 use Rattle.blheli_telemetry.specs.declared.parser.ParserStats.{ParserStats}
 use Rattle.blheli_telemetry.specs.declared.parser.StreamParser.{StreamParser}
 use Rattle.blheli_telemetry.specs.declared.parser.Pushed.{Pushed}
@@ -39,12 +38,12 @@ shifted_down b = take 9 (drop 1 b) ++ drop 9 b
 -- fewer than nine are held: the byte joins them
 abbrev pub collected : StreamParser → ℕ → Pushed
 collected p b =
-    record { parser = record { bytes = set p.bytes p.len b; len = p.len + 1; stats = p.stats }; parsed = Nothing }
+    record { parser = record { bytes = set p.bytes p.len b; len = p.len + 1; stats = p.stats }; parsed = None }
 
 -- ten bytes f are there: with a right check byte the sample is given and the parser is empty, else the oldest byte goes
 abbrev pub completed : List ℕ → ParserStats → Reply EscTelemetry → Pushed
-completed f s (accepted t) = record { parser = record { bytes = f; len = 0; stats = counted_good s }; parsed = Sample t }
-completed f s (refused n) = record { parser = record { bytes = shifted_down f; len = 9; stats = counted_bad s }; parsed = Nothing }
+completed f s (accepted t) = record { parser = record { bytes = f; len = 0; stats = counted_good s }; parsed = Some t }
+completed f s (refused n) = record { parser = record { bytes = shifted_down f; len = 9; stats = counted_bad s }; parsed = None }
 
 -- a parser that says it holds ten or more, which no call makes, is taken to hold nine
 unfoldable pub push_of : StreamParser → ℕ → Pushed

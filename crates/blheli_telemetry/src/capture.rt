@@ -2,34 +2,22 @@
 ghost use Rattle.std.specs.Prelude.{◌≡◌};
 ghost use Rattle.blheli_telemetry.specs.Capture.{good, Searched};
 
-use crate::frame::{Decoded, FRAME_LEN, decode};
+use crate::frame::{FRAME_LEN, decode};
 
-#[derive(Clone, Copy)]
-pub enum Found {
-    // The start of ten bytes that are a good frame.
-    At(usize),
-    Nowhere,
-}
-
-// Where a good frame stands in a capture, for a reader that has no stream to parse.
-pub fn find_frame(capture: &[u8]) -> Found
+// Where a good frame starts in a capture, for a reader that has no stream to parse.
+pub fn find_frame(capture: &[u8]) -> Option<usize>
     ensures { Searched capture.now result }
 {
-    let mut start: usize = 0;
-    while FRAME_LEN <= capture.len() - start {
-        if is_good(&capture[start..start + FRAME_LEN]) {
-            return Found::At(start);
+    for (start, window) in capture.windows(FRAME_LEN).enumerate() {
+        if is_good(window) {
+            return Some(start);
         }
-        start += 1;
     }
-    Found::Nowhere
+    None
 }
 
 fn is_good(frame: &[u8]) -> bool
     ensures { result ≡ good frame.now }
 {
-    let Decoded::Telemetry(_) = decode(frame) else {
-        return false;
-    };
-    true
+    decode(frame).is_ok()
 }

@@ -10,10 +10,8 @@ pub fn crc8(bytes: &[u8]) -> u8
 {
     let table = CRC_TABLE;
     let mut crc: u8 = 0;
-    let mut i: usize = 0;
-    while i < bytes.len() {
-        crc = next(&table, crc, bytes[i]);
-        i += 1;
+    for &byte in bytes {
+        crc = next(&table, crc, byte);
     }
     crc
 }
@@ -23,6 +21,5 @@ fn next(table: &[u8; 256], crc: u8, byte: u8) -> u8
     requires { CrcTabled table.now }
     ensures { result ≡ crc_byte crc byte }
 {
-    let entry = (crc ^ byte) as usize;
-    table[entry]
+    table[usize::from(crc ^ byte)]
 }

@@ -2,10 +2,12 @@
 // first, then the CRC of those nine bytes.
 ghost use Rattle.std.specs.Prelude.{◌≡◌, ◌≤◌, length};
 ghost use Rattle.base.specs.BigEndian.{overwrite};
-ghost use Rattle.blheli_telemetry.specs.Frame.{telemetry_of, payload_of, read_frame, frame_reply, frame_written, decoded, encoded};
+ghost use Rattle.base.specs.Reply.{replied};
+ghost use Rattle.blheli_telemetry.specs.Frame.{telemetry_of, payload_of, read_frame, frame_reply, frame_written};
 
 use crate::big_endian::{be16_at, put_be16};
 use crate::crc::crc8;
+use base::Refusal;
 
 pub const FRAME_LEN: usize = 10;
 
@@ -21,49 +23,36 @@ pub struct EscTelemetry {
     pub erpm_div100: u16,
 }
 
-#[derive(Clone, Copy)]
-pub enum Decoded {
-    Telemetry(EscTelemetry),
-    // Not ten bytes.
-    Length,
-    // The tenth byte is not the CRC of the nine.
-    Crc,
-}
-
-#[derive(Clone, Copy)]
-pub enum Encoded {
-    Written,
-    // Fewer than ten entries were lent.
-    Space,
-}
-
 // The telemetry of ten bytes whose last is the check byte of the nine before.
-pub fn decode(frame: &[u8]) -> Decoded
-    ensures { decoded result ≡ read_frame frame.now }
+#[tactic(auto, unfolding(crate::specs::Frame::read_frame))]
+pub fn decode(frame: &[u8]) -> Result<EscTelemetry, Refusal>
+    ensures { replied result ≡ read_frame frame.now }
 {
     if frame.len() != FRAME_LEN {
-        return Decoded::Length;
+        return Err(Refusal::Length);
     }
     if crc8(&frame[..PAYLOAD_LEN]) != frame[PAYLOAD_LEN] {
-        return Decoded::Crc;
+        return Err(Refusal::CheckByte);
     }
-    Decoded::Telemetry(telemetry_of(frame))
+    Ok(telemetry_of(frame))
 }
 
 // Writes the frame at the start of out, and leaves the rest of it as it is.
-pub fn encode(telemetry: EscTelemetry, out: &mut [u8]) -> Encoded
-    ensures result_value { encoded result ≡ frame_reply out.old }
+#[tactic(auto, unfolding(crate::specs::Frame::frame_reply, crate::specs::Frame::frame_written))]
+pub fn encode(telemetry: EscTelemetry, out: &mut [u8]) -> Result<(), Refusal>
+    ensures result_value { replied result ≡ frame_reply out.old }
     ensures out_after { out.new ≡ frame_written telemetry out.old }
 {
     if out.len() < FRAME_LEN {
-        return Encoded::Space;
+        return Err(Refusal::Space);
     }
     put_payload(out, telemetry);
     let check = crc8(&out[..PAYLOAD_LEN]);
     out[PAYLOAD_LEN] = check;
-    Encoded::Written
+    Ok(())
 }
 
+#[tactic(auto, unfolding(crate::specs::Frame::telemetry_of, base::specs::BigEndian::number_at))]
 fn telemetry_of(frame: &[u8]) -> EscTelemetry
     requires { length frame.now ≡ 10 }
     ensures { result ≡ telemetry_of frame.now }

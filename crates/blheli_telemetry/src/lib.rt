@@ -12,7 +12,7 @@ mod crc_table;
 mod frame;
 mod parser;
 
-pub use capture::{Found, find_frame};
+pub use capture::find_frame;
 pub use crc::crc8;
-pub use frame::{Decoded, Encoded, EscTelemetry, FRAME_LEN, decode, encode};
-pub use parser::{Parsed, ParserStats, Pushed, StreamParser};
+pub use frame::{EscTelemetry, FRAME_LEN, decode, encode};
+pub use parser::{ParserStats, Pushed, StreamParser};

@@ -6,10 +6,10 @@ ghost use Rattle.std.specs.Prelude.{◌≡◌, ltb};
 ghost use Rattle.base.specs.Choice.{pick};
 ghost use Rattle.blheli_telemetry.specs.Parser.{no_counts, new_parser, counted_good, counted_bad, shifted_down, collected, push_of, reset_of};
 
-use crate::frame::{Decoded, EscTelemetry, decode};
+use crate::frame::{EscTelemetry, decode};
 use base::saturating_inc;
 
-#[derive(Clone, Copy)]
+#[derive(Clone, Copy, Default)]
 pub struct ParserStats {
     pub valid_frames: u32,
     pub crc_failures: u32,
@@ -23,17 +23,11 @@ pub struct StreamParser {
     bytes: [u8; 10],
 }
 
-// What a byte brings out of the parser.
-#[derive(Clone, Copy)]
-pub enum Parsed {
-    Sample(EscTelemetry),
-    Nothing,
-}
-
+// The parser after a byte, and the sample that the byte ends, if it ends one.
 #[derive(Clone, Copy)]
 pub struct Pushed {
     pub parser: StreamParser,
-    pub parsed: Parsed,
+    pub parsed: Option<EscTelemetry>,
 }
 
 impl ParserStats {
@@ -41,11 +35,7 @@ impl ParserStats {
     pub fn new() -> Self
         ensures { result ≡ no_counts }
     {
-        Self {
-            valid_frames: 0,
-            crc_failures: 0,
-            discarded_bytes: 0,
-        }
+        Self::default()
     }
 }
 
@@ -54,12 +44,10 @@ impl StreamParser {
     pub fn new() -> Self
         ensures { result ≡ new_parser }
     {
-        let bytes = [0u8; 10];
-        let stats = ParserStats::new();
         Self {
-            bytes,
+            bytes: [0; 10],
             len: 0,
-            stats,
+            stats: ParserStats::new(),
         }
     }
 
@@ -89,19 +77,20 @@ impl StreamParser {
     }
 
     // The parser with one byte more, and what that byte brings out of it.
+    #[tactic(auto, unfolding(crate::specs::Parser::push_of))]
     pub fn pushed(self, byte: u8) -> Pushed
         ensures { result ≡ push_of self byte }
     {
         if self.collects() {
             return Pushed {
                 parser: self.collected(byte),
-                parsed: Parsed::Nothing,
+                parsed: None,
             };
         }
         let mut bytes = self.bytes;
         let stats = self.stats;
         bytes[9] = byte;
-        let Decoded::Telemetry(sample) = decode(&bytes) else {
+        let Ok(sample) = decode(&bytes) else {
             let rest = shifted_down(bytes);
             let stats = counted_bad(stats);
             let parser = StreamParser {
@@ -111,7 +100,7 @@ impl StreamParser {
             };
             return Pushed {
                 parser,
-                parsed: Parsed::Nothing,
+                parsed: None,
             };
         };
         let stats = counted_good(stats);
@@ -122,7 +111,7 @@ impl StreamParser {
         };
         Pushed {
             parser,
-            parsed: Parsed::Sample(sample),
+            parsed: Some(sample),
         }
     }
 
@@ -147,7 +136,7 @@ impl StreamParser {
     }
 
     // As `pushed`, on the caller's parser in place.
-    pub fn push(&mut self, byte: u8) -> Parsed
+    pub fn push(&mut self, byte: u8) -> Option<EscTelemetry>
         ensures { (result ≡ (push_of self.old byte).parsed) × (self.new ≡ (push_of self.old byte).parser) }
     {
         let done = (*self).pushed(byte);
@@ -168,8 +157,7 @@ fn counted_good(stats: ParserStats) -> ParserStats
 {
     ParserStats {
         valid_frames: saturating_inc(stats.valid_frames),
-        crc_failures: stats.crc_failures,
-        discarded_bytes: stats.discarded_bytes,
+        ..stats
     }
 }
 
@@ -177,21 +165,18 @@ fn counted_bad(stats: ParserStats) -> ParserStats
     ensures { result ≡ counted_bad stats }
 {
     ParserStats {
-        valid_frames: stats.valid_frames,
         crc_failures: saturating_inc(stats.crc_failures),
         discarded_bytes: saturating_inc(stats.discarded_bytes),
+        ..stats
     }
 }
 
 // Each byte but the first, one place down: the oldest is dropped.
+#[tactic(auto, unfolding(crate::specs::Parser::shifted_down))]
 fn shifted_down(bytes: [u8; 10]) -> [u8; 10]
     ensures { result ≡ shifted_down bytes }
 {
     let mut shifted = bytes;
-    let mut i: usize = 0;
-    while i < 9 {
-        shifted[i] = bytes[i + 1];
-        i += 1;
-    }
+    shifted[..9].copy_from_slice(&bytes[1..]);
     shifted
 }

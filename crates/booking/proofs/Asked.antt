@@ -1,12 +1,11 @@
 -- What a record and its answer show of the idle check: a 0a, nothing, or what the rule says to a sample or a 0b.
 use mathlib.Core.Path.{◌≡◌, refl}
-use mathlib.Core.Option.{Option, none, some}
+use Rattle.std.specs.Prelude.{Option, None, Some}
 use Prim.Native.Nat.{ℕ}
 use Rattle.esc_lanes.specs.declared.request.EscActuatorRequest.{EscActuatorRequest}
 use Rattle.esc_lanes.specs.declared.request.EscActuatorAck.{EscActuatorAck}
 use Rattle.esc_lanes.specs.declared.request.EscTelemetryUpdate.{EscTelemetryUpdate}
 use Rattle.esc_feedback.specs.declared.answer.EscManagerTimeout.{EscManagerTimeout}
-use Rattle.esc_feedback.specs.declared.answer.EscManagerTimeout.TheVariants as timeout
 use Rattle.esc_records.specs.declared.record.Record.{Record}
 use Rattle.esc_records.specs.declared.record.Record.TheVariants as kind
 use Rattle.esc_answers.specs.declared.answer.Answer.{Answer}
@@ -19,9 +18,9 @@ use Rattle.booking.specs.IdleRule.{judged}
 use Rattle.booking.specs.Rule.{ack_answer, wire_answer_of, answer_to}
 
 pub data Shows (h : Past) (e : Seen) : Type 0 where
-  checks : (k : Check) → e.idle.check ≡ some k → e.idle.status ≡ none → Shows h e
-  passes : e.idle.check ≡ none → e.idle.status ≡ none → e.requests.delivered ≡ none → Shows h e
-  asks : e.idle.check ≡ none → e.idle.status ≡ some (judged h e.requests.delivered e.now) → Shows h e
+  checks : (k : Check) → e.idle.check ≡ Some k → e.idle.status ≡ None → Shows h e
+  passes : e.idle.check ≡ None → e.idle.status ≡ None → e.requests.delivered ≡ None → Shows h e
+  asks : e.idle.check ≡ None → e.idle.status ≡ Some (judged h e.requests.delivered e.now) → Shows h e
 
 -- and the status that an answer says is the one that is seen
 pub record Shown (h : Past) (r : Record) (a : Answer) : Type 0 where
@@ -30,19 +29,18 @@ pub record Shown (h : Past) (r : Record) (a : Answer) : Type 0 where
 
 module _ (h : Past) where
   acked : (k : EscActuatorAck) (now : ℕ) (q : Option EscActuatorRequest) (f : Option Frame)
-      → Shown h (kind.ActuatorAck k now) (answer.Ack (ack_answer q f (λ u. judged h (some u) now)))
-  acked k now none f = record { shows = passes refl refl refl; status = refl }
-  acked k now (some q) none = record { shows = passes refl refl refl; status = refl }
-  acked k now (some q) (some f) = record { shows = asks refl refl; status = refl }
+      → Shown h (kind.ActuatorAck k now) (answer.Ack (ack_answer q f (λ u. judged h (Some u) now)))
+  acked k now None f = record { shows = passes refl refl refl; status = refl }
+  acked k now (Some q) None = record { shows = passes refl refl refl; status = refl }
+  acked k now (Some q) (Some f) = record { shows = asks refl refl; status = refl }
 
-  polled : (now : ℕ) (t : EscManagerTimeout) → Shown h (kind.PollTimeout now) (answer.Timeout t)
-  polled now timeout.None = record { shows = passes refl refl refl; status = refl }
-  polled now (timeout.ActuatorAck q) = record { shows = passes refl refl refl; status = refl }
-  polled now (timeout.TelemetryResponse q) = record { shows = passes refl refl refl; status = refl }
+  polled : (now : ℕ) (t : Option EscManagerTimeout) → Shown h (kind.PollTimeout now) (answer.Timeout t)
+  polled now None = record { shows = passes refl refl refl; status = refl }
+  polled now (Some t) = record { shows = passes refl refl refl; status = refl }
 
-  received : (b now : ℕ) (u : Option EscTelemetryUpdate) → Shown h (kind.WireByte b now) (answer.Wire (wire_answer_of u (λ v. judged h (some v) now)))
-  received b now none = record { shows = passes refl refl refl; status = refl }
-  received b now (some u) = record { shows = asks refl refl; status = refl }
+  received : (b now : ℕ) (u : Option EscTelemetryUpdate) → Shown h (kind.WireByte b now) (answer.Wire (wire_answer_of u (λ v. judged h (Some v) now)))
+  received b now None = record { shows = passes refl refl refl; status = refl }
+  received b now (Some u) = record { shows = asks refl refl; status = refl }
 
   pub shown : (o : Opening) (r : Record) → Shown h r (answer_to o h r)
   shown o (kind.Open c t) = record { shows = passes refl refl refl; status = refl }

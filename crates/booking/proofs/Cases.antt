@@ -2,7 +2,7 @@
 use mathlib.Core.Path.{◌≡◌, refl}
 use mathlib.Core.Bool.{true, false}
 use mathlib.Core.List.{List, [], ◌∷◌, ◌++◌, map, reverse}
-use mathlib.Core.Option.{none, some}
+use Rattle.std.specs.Prelude.{None, Some}
 use Prim.Native.Nat.{ℕ}
 use lib.ListN.{replicate}
 use Rattle.blheli_telemetry.specs.Crc.{crc_bit, crc_bits, crc_byte, crc_from, crc_of}
@@ -49,15 +49,15 @@ sample erpm =
     }
 
 abbrev answer : ℕ → EscIdleQualificationStatus
-answer erpm = judged_at (record { config = settings 200; start = 0 }) (some (sample erpm)) 0 (λ l. [])
+answer erpm = judged_at (record { config = settings 200; start = 0 }) (Some (sample erpm)) 0 (λ l. [])
 
 pub record TableCases : Type 0 where
   -- CRC of nothing, of 80, of "123456789"; the parser from empty on ten 00, on eight 00, 1e, 5a and with 5b
   pub frames : FrameCases
   -- the same three of the frame ends
-  pub ten-zeros : frame_at (wire_of (replicate 9 0x00)) 0x00 ≡ some (replicate 10 0x00)
-  pub erpm-30 : frame_at (wire_of (replicate 8 0x00 ++ 0x1e ∷ [])) 0x5a ≡ some (replicate 8 0x00 ++ 0x1e ∷ 0x5a ∷ [])
-  pub bad-check : frame_at (wire_of (replicate 8 0x00 ++ 0x1e ∷ [])) 0x5b ≡ none
+  pub ten-zeros : frame_at (wire_of (replicate 9 0x00)) 0x00 ≡ Some (replicate 10 0x00)
+  pub erpm-30 : frame_at (wire_of (replicate 8 0x00 ++ 0x1e ∷ [])) 0x5a ≡ Some (replicate 8 0x00 ++ 0x1e ∷ 0x5a ∷ [])
+  pub bad-check : frame_at (wire_of (replicate 8 0x00 ++ 0x1e ∷ [])) 0x5b ≡ None
   -- the four cases of Due
   pub dues : DueCases
   -- age 200 with limit 200 fresh, 201 not; age 4294967295 with limit 4294967295 expires

@@ -3,7 +3,7 @@
 use mathlib.Core.Path.{◌≡◌, refl, ap}
 use mathlib.Core.List.Memᴰ
 use mathlib.Core.List.{List, [], ◌∷◌, ◌++◌, Memᴰ}
-use mathlib.Core.Option.{Option, none, some}
+use Rattle.std.specs.Prelude.{Option, None, Some}
 use mathlib.Core.Bool.{Bool, true, false, ◌&&◌}
 use Prim.Native.Nat.{ℕ, zero, suc, ◌≤◌, ◌<◌}
 use native.Mathlib.Omega.{arith}
@@ -49,7 +49,7 @@ module _ (c : EscIdleQualificationConfig) where
 
   -- a counted sample that is not above max
   counting : (u : EscTelemetryUpdate) (l : Lane) (us all : List EscTelemetryUpdate) → ltb c.max_erpm_div100 (erpm u) ≡ false
-      → Newest c us all → Newest c (joined c u l us) (added (some u) l all)
+      → Newest c us all → Newest c (joined c u l us) (added (Some u) l all)
   counting u l us all n i = go (eqb (lane_of u.output) (lane_number l)) (ltb (erpm u) c.min_erpm_div100) refl
     where
       inside : ltb (erpm u) c.min_erpm_div100 ≡ false → Within c u
@@ -66,22 +66,22 @@ module _ (c : EscIdleQualificationConfig) where
 
 -- a sample past grace and above max
 abbrev pub over : Check → Option EscTelemetryUpdate → ℕ → Bool
-over k none now = false
-over k (some u) now = past_grace k now && ltb k.config.max_erpm_div100 (erpm u)
+over k None now = false
+over k (Some u) now = past_grace k now && ltb k.config.max_erpm_div100 (erpm u)
 
 -- where nothing is delivered nothing is counted
-pub uncounted : (d : Bool) → only_if {A = EscTelemetryUpdate} d none ≡ none
+pub uncounted : (d : Bool) → only_if {A = EscTelemetryUpdate} d None ≡ None
 uncounted true = refl
 uncounted false = refl
 
 pub run-counts : (k : Check) (x : Option EscTelemetryUpdate) (now : ℕ) (l : Lane) (us all : List EscTelemetryUpdate) → over k x now ≡ false
     → Newest k.config us all → Newest k.config (streak_at k x now l us) (added (only_if (past_grace k now) x) l all)
-run-counts k none now l us all n i = rw (uncounted (past_grace k now)) (freshened k.config now us all i)
-run-counts k (some u) now l us all n i = go (past_grace k now) n
+run-counts k None now l us all n i = rw (uncounted (past_grace k now)) (freshened k.config now us all i)
+run-counts k (Some u) now l us all n i = go (past_grace k now) n
   where
     go : (d : Bool) → (d && ltb k.config.max_erpm_div100 (erpm u)) ≡ false
-        → Newest k.config (pick d (fresh k.config now (joined k.config u l us)) us) (added (only_if d (some u)) l all)
-    go true n = freshened k.config now (joined k.config u l us) (added (some u) l all) (counting k.config u l us all n i)
+        → Newest k.config (pick d (fresh k.config now (joined k.config u l us)) us) (added (only_if d (Some u)) l all)
+    go true n = freshened k.config now (joined k.config u l us) (added (Some u) l all) (counting k.config u l us all n i)
     go false n = i
 
 -- a streak that is long enough, and whose newest has not expired

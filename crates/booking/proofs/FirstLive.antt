@@ -2,7 +2,7 @@
 use mathlib.Core.Path.{◌≡◌, refl}
 use mathlib.Core.Bool.{true, false}
 use mathlib.Core.List.{List, [], ◌∷◌, ◌++◌, map}
-use mathlib.Core.Option.{some}
+use Rattle.std.specs.Prelude.{None, Some}
 use Prim.Native.Nat.{ℕ}
 use lib.ListN.{take, drop, replicate}
 use Rattle.base.specs.Bytes.{are_bytes}
@@ -27,7 +27,6 @@ use Rattle.esc_answers.specs.Answer.{
   answer_bytes,
   reply_bytes,
 }
-use Rattle.esc_answers.specs.declared.answer.IdleAnswer.TheVariants.{NoCheck}
 use Rattle.booking.specs.History.{since}
 use Rattle.booking.specs.Wire.{Frame, wire, latest, frame_at}
 use Rattle.booking.specs.Booking.{open_request, started_at, latest_frame, newly_started, started_request}
@@ -72,9 +71,9 @@ abbrev held : List (List ℕ)
 held = asked ++ (map (byte 0x282) nine ++ tenth ∷ [])
 
 pub first_live : (of_bytes (map roomy (started ++ tenth ∷ [])) ≡ true)
-    × (frame_for (past_by started) (record_of tenth) ≡ some given)
-    × (frame_for (past_by held) (record_of acks) ≡ some given)
-    × (sample_holds second given NoCheck ≡ answer)
+    × (frame_for (past_by started) (record_of tenth) ≡ Some given)
+    × (frame_for (past_by held) (record_of acks) ≡ Some given)
+    × (sample_holds second given None ≡ answer)
     × (last_reply (started ++ tenth ∷ []) ≡ answer)
     × (last_reply (held ++ acks ∷ []) ≡ answer)
 unfolding number_at bytes_of crc_bit crc_bits crc_byte crc_from crc_of telemetry_of payload_of due record_of read_record request_bytes sample_bytes
@@ -94,7 +93,7 @@ abbrev widest : List ℕ
 widest = byte 2 (crc_of wide)
 
 pub bytes-needed : (of_bytes (map roomy widely) ≡ false)
-    × (frame_for (past_by widely) (record_of widest) ≡ some (record { bytes = wide ++ crc_of wide ∷ []; at = 2 }))
+    × (frame_for (past_by widely) (record_of widest) ≡ Some (record { bytes = wide ++ crc_of wide ∷ []; at = 2 }))
     × (take 9 (drop 15 (last_reply (widely ++ widest ∷ []))) ≡ replicate 9 0x00)
 unfolding number_at bytes_of crc_bit crc_bits crc_byte crc_from crc_of telemetry_of payload_of due record_of read_record request_bytes sample_bytes
     delivered_bytes failure_bytes idle_bytes next_bytes ack_bytes wire_bytes timeout_bytes body_bytes answer_bytes reply_bytes since wire latest

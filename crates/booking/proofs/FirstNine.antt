@@ -1,7 +1,8 @@
 -- Reading and writing a frame undo each other, so the payload in the answer is the first nine of the ten bytes that were read.
 use mathlib.Core.Path.{◌≡◌, refl, sym, ◌∙◌, ap}
 use mathlib.Core.List.{List, ◌∷◌, ◌++◌}
-use mathlib.Core.Option.{Option, none, some, none-ne-some}
+use Rattle.std.specs.Prelude.{Option, None, Some, is_some}
+use Rattle.std.proofs.lemmas.Option.{none-some}
 use mathlib.Core.Bool.{Bool, true, false, false≢true}
 use Prim.Native.Nat.{ℕ}
 use lib.ListN.{take}
@@ -11,16 +12,14 @@ use Rattle.blheli_telemetry.proofs.FrameLaws.{read-good}
 use Rattle.blheli_telemetry.proofs.RoundTrip.{written_read}
 use Rattle.esc_lanes.specs.declared.request.EscActuatorRequest.{EscActuatorRequest}
 use Rattle.esc_lanes.specs.declared.request.EscTelemetryUpdate.{EscTelemetryUpdate}
-use Rattle.esc_feedback.specs.declared.answer.EscManagerTimeout.TheVariants as timeout
 use Rattle.esc_answers.specs.Answer.{sample_bytes, delivered_bytes, idle_bytes, ack_bytes, wire_bytes, body_bytes, answer_bytes}
 use Rattle.esc_records.specs.declared.record.Record.{Record}
 use Rattle.esc_records.specs.declared.record.Record.TheVariants as kind
-use Rattle.esc_answers.specs.declared.answer.IdleAnswer.{IdleAnswer}
+use Rattle.esc_idle.specs.declared.idle_verdict.EscIdleQualificationStatus.{EscIdleQualificationStatus}
 use Rattle.esc_answers.specs.declared.answer.AckAnswer.TheVariants as ack
-use Rattle.esc_answers.specs.declared.answer.WireAnswer.TheVariants as wire_answer
 use Rattle.esc_answers.specs.declared.answer.Answer.{Answer}
 use Rattle.esc_answers.specs.declared.answer.Answer.TheVariants as answer
-use Rattle.base.specs.Maybe.{is, only_if}
+use Rattle.base.specs.Maybe.{only_if}
 use Rattle.booking.specs.History.{Timed, Past, seen, said_by, update_in}
 use Rattle.booking.specs.Wire.{Frame, wire, frame_at, timed}
 use Rattle.booking.specs.Booking.{booked, booked_to, only_the, open_request, latest_frame, newly_started, started_request}
@@ -36,36 +35,34 @@ first-nine-of f g = ap (take 9) (written_read f (telemetry_of f) g.bytes (read-g
 
 -- an answer that delivers u: 00, 02, u and an idle status
 pub record Said (u : EscTelemetryUpdate) (bytes : List ℕ) : Type 0 where
-  pub status : IdleAnswer
+  pub status : Option EscIdleQualificationStatus
   pub says : bytes ≡ 0x00 ∷ 0x02 ∷ (sample_bytes u ++ idle_bytes status)
 
-said : (a : Answer) (u : EscTelemetryUpdate) → update_in (said_by a).delivered ≡ some u → Said u (answer_bytes a)
+said : (a : Answer) (u : EscTelemetryUpdate) → update_in (said_by a).delivered ≡ Some u → Said u (answer_bytes a)
 unfolding answer_bytes body_bytes ack_bytes wire_bytes delivered_bytes
-said answer.Done u e = absurd (none-ne-some u e)
-said (answer.Request q) u e = absurd (none-ne-some u e)
-said (answer.Decided y) u e = absurd (none-ne-some u e)
-said (answer.Ack ack.Rejected) u e = absurd (none-ne-some u e)
-said (answer.Ack ack.Accepted) u e = absurd (none-ne-some u e)
+said answer.Done u e = absurd (none-some u e)
+said (answer.Request q) u e = absurd (none-some u e)
+said (answer.Decided y) u e = absurd (none-some u e)
+said (answer.Ack ack.Rejected) u e = absurd (none-some u e)
+said (answer.Ack ack.Accepted) u e = absurd (none-some u e)
 said (answer.Ack (ack.Sample d)) u e = let same : d.update ≡ u = cc in record { status = d.status; says = rw same }
-said (answer.Timeout timeout.None) u e = absurd (none-ne-some u e)
-said (answer.Timeout (timeout.ActuatorAck q)) u e = absurd (none-ne-some u e)
-said (answer.Timeout (timeout.TelemetryResponse q)) u e = absurd (none-ne-some u e)
-said (answer.Wire wire_answer.None) u e = absurd (none-ne-some u e)
-said (answer.Wire (wire_answer.Sample d)) u e = let same : d.update ≡ u = cc in record { status = d.status; says = rw same }
-said (answer.BackAfterRetries b) u e = absurd (none-ne-some u e)
-said (answer.Idle i) u e = absurd (none-ne-some u e)
-said (answer.Report r) u e = absurd (none-ne-some u e)
-said (answer.Stored s) u e = absurd (none-ne-some u e)
-said (answer.Figures f) u e = absurd (none-ne-some u e)
+said (answer.Timeout t) u e = absurd (none-some u e)
+said (answer.Wire None) u e = absurd (none-some u e)
+said (answer.Wire (Some d)) u e = let same : d.update ≡ u = cc in record { status = d.status; says = rw same }
+said (answer.BackAfterRetries b) u e = absurd (none-some u e)
+said (answer.Idle i) u e = absurd (none-some u e)
+said (answer.Report r) u e = absurd (none-some u e)
+said (answer.Stored s) u e = absurd (none-some u e)
+said (answer.Figures f) u e = absurd (none-some u e)
 
-booked-bytes : (q : EscActuatorRequest) (f : Frame) → Good f.bytes → (status : IdleAnswer)
+booked-bytes : (q : EscActuatorRequest) (f : Frame) → Good f.bytes → (status : Option EscIdleQualificationStatus)
     → 0x00 ∷ 0x02 ∷ (sample_bytes (booked q f) ++ idle_bytes status) ≡ sample_holds q f status
 unfolding sample_bytes bytes_of
 booked-bytes q f g status = rw (first-nine-of f.bytes g)
 
 -- a sample that is booked, for either kind of record
 module _ (h : Past) (r : Record) (a : Answer) (u : EscTelemetryUpdate) (said-u : Said u (answer_bytes a)) where
-  framed-by : (p : Timed) → open_request h ≡ some p → (f : Frame) → frame_for h r ≡ some f → Good f.bytes → booked p.request f ≡ u
+  framed-by : (p : Timed) → open_request h ≡ Some p → (f : Frame) → frame_for h r ≡ Some f → Good f.bytes → booked p.request f ≡ u
       → Laid h r (answer_bytes a)
   framed-by p o f x g e =
       record {
@@ -82,50 +79,50 @@ module _ (h : Past) (r : Record) (a : Answer) (u : EscTelemetryUpdate) (said-u :
             ∙ booked-bytes p.request f g said-u.status;
       }
 
-  laid_by : (ok : EscActuatorRequest → Bool) (x : Option Frame) → frame_for h r ≡ x → Each GoodFrame x → booked_to (only_the (open_request h) ok) x ≡ some u
+  laid_by : (ok : EscActuatorRequest → Bool) (x : Option Frame) → frame_for h r ≡ x → Each GoodFrame x → booked_to (only_the (open_request h) ok) x ≡ Some u
       → Laid h r (answer_bytes a)
   laid_by ok x e g d = go (open_request h) refl d
     where
-      with-frame : (p : Timed) → open_request h ≡ some p → (y : Option Frame) → frame_for h r ≡ y → Each GoodFrame y → booked_to (some p.request) y ≡ some u
+      with-frame : (p : Timed) → open_request h ≡ Some p → (y : Option Frame) → frame_for h r ≡ y → Each GoodFrame y → booked_to (Some p.request) y ≡ Some u
           → Laid h r (answer_bytes a)
-      with-frame p o none k i z = absurd (none-ne-some u z)
-      with-frame p o (some f) k i z = let same : booked p.request f ≡ u = cc in framed-by p o f k i same
+      with-frame p o None k i z = absurd (none-some u z)
+      with-frame p o (Some f) k i z = let same : booked p.request f ≡ u = cc in framed-by p o f k i same
 
-      go : (o : Option Timed) → open_request h ≡ o → booked_to (only_the o ok) x ≡ some u → Laid h r (answer_bytes a)
-      go none k z = absurd (none-ne-some u z)
-      go (some p) k z = taken (ok p.request) z
+      go : (o : Option Timed) → open_request h ≡ o → booked_to (only_the o ok) x ≡ Some u → Laid h r (answer_bytes a)
+      go None k z = absurd (none-some u z)
+      go (Some p) k z = taken (ok p.request) z
         where
-          taken : (b : Bool) → booked_to (only_if b (some p.request)) x ≡ some u → Laid h r (answer_bytes a)
+          taken : (b : Bool) → booked_to (only_if b (Some p.request)) x ≡ Some u → Laid h r (answer_bytes a)
           taken true y = with-frame p k x e g y
-          taken false y = absurd (none-ne-some u y)
+          taken false y = absurd (none-some u y)
 
 module _ (h : Past) (i : Heard h) (a : Answer) (u : EscTelemetryUpdate) where
-  laid-for : (r : Record) → Each Below (seen r a).wire.byte → (seen r a).requests.delivered ≡ some u → delivery_for h r ≡ some u → Laid h r (answer_bytes a)
+  laid-for : (r : Record) → Each Below (seen r a).wire.byte → (seen r a).requests.delivered ≡ Some u → delivery_for h r ≡ Some u → Laid h r (answer_bytes a)
   unfolding newly_started started_request
-  laid-for (kind.Open c t) b e d = absurd (none-ne-some u e)
-  laid-for (kind.NextRequest now) b e d = absurd (none-ne-some u e)
-  laid-for (kind.MarkRequestQueued q now) b e d = absurd (none-ne-some u e)
+  laid-for (kind.Open c t) b e d = absurd (none-some u e)
+  laid-for (kind.NextRequest now) b e d = absurd (none-some u e)
+  laid-for (kind.MarkRequestQueued q now) b e d = absurd (none-some u e)
   laid-for (kind.ActuatorAck k now) b e d =
       laid_by h (kind.ActuatorAck k now) a u (said a u e) _ (latest_frame h) refl (latest-frame-good h i) d
-  laid-for (kind.PollTimeout now) b e d = absurd (none-ne-some u e)
+  laid-for (kind.PollTimeout now) b e d = absurd (none-some u e)
   laid-for (kind.WireByte x now) b e d =
       laid_by h (kind.WireByte x now) a u (said a u e) _ (timed (frame_at (wire h) x) now) refl
       (timed-good (frame_at (wire h) x) now (frame-good (wire h) (wire-bytes h i) x b))
       d
-  laid-for kind.WireDiscontinuity b e d = absurd (none-ne-some u e)
-  laid-for (kind.TryRecover armed now) b e d = absurd (none-ne-some u e)
-  laid-for kind.TakeBackAfterRetries b e d = absurd (none-ne-some u e)
-  laid-for kind.RefreshWireStats b e d = absurd (none-ne-some u e)
-  laid-for (kind.IdleCheck c t) b e d = absurd (none-ne-some u e)
-  laid-for (kind.IdleStatus now) b e d = absurd (none-ne-some u e)
-  laid-for kind.Report b e d = absurd (none-ne-some u e)
-  laid-for (kind.StoredSample l) b e d = absurd (none-ne-some u e)
-  laid-for (kind.Figures l) b e d = absurd (none-ne-some u e)
+  laid-for kind.WireDiscontinuity b e d = absurd (none-some u e)
+  laid-for (kind.TryRecover armed now) b e d = absurd (none-some u e)
+  laid-for kind.TakeBackAfterRetries b e d = absurd (none-some u e)
+  laid-for kind.RefreshWireStats b e d = absurd (none-some u e)
+  laid-for (kind.IdleCheck c t) b e d = absurd (none-some u e)
+  laid-for (kind.IdleStatus now) b e d = absurd (none-some u e)
+  laid-for kind.Report b e d = absurd (none-some u e)
+  laid-for (kind.StoredSample l) b e d = absurd (none-some u e)
+  laid-for (kind.Figures l) b e d = absurd (none-some u e)
 
 pub first-nine : FirstNine
 first-nine cs c r a before now read reply = go (seen r a).requests.delivered refl
   where
-    go : (x : Option EscTelemetryUpdate) → (seen r a).requests.delivered ≡ x → is x ≡ true → Laid (past_after cs) r (answer_bytes a)
-    go none e z = absurd (false≢true z)
-    go (some u) e z =
+    go : (x : Option EscTelemetryUpdate) → (seen r a).requests.delivered ≡ x → is_some x ≡ true → Laid (past_after cs) r (answer_bytes a)
+    go None e z = absurd (false≢true z)
+    go (Some u) e z =
         laid-for (past_after cs) (heard-after cs before) a u r (seen_below c.bytes r a now read) e (sym (delivered-exactly cs c r a read reply) ∙ e)

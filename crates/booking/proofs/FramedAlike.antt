@@ -1,7 +1,7 @@
 -- The unit's parser is the one that belongs to the wire; and the latest bytes of a wire do not reach behind a cut.
 use mathlib.Core.Path.{◌≡◌, refl, sym, ◌∙◌, ap, subst}
 use mathlib.Core.List.{List, [], ◌∷◌, ◌++◌}
-use mathlib.Core.Option.{Option}
+use Rattle.std.specs.Prelude.{Option}
 use Prim.Native.Nat.{ℕ, zero, suc}
 use Rattle.blheli_telemetry.specs.Parser.{push_of}
 use Rattle.esc_unit.specs.declared.unit.Unit.{Unit}

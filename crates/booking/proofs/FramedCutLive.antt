@@ -1,5 +1,6 @@
 -- Lists run by the unit itself: two with the same bytes and cuts after a cut of each, whose samples are the same though other records and
 -- times differ; and lists in which one thing that is asked for fails.
+use Rattle.std.specs.Prelude.{Option, None, Some}
 use mathlib.Core.Path.{◌≡◌, refl}
 use mathlib.Core.Bool.{Bool, true, false}
 use mathlib.Core.List.{List, [], ◌∷◌, ◌++◌, map}
@@ -9,12 +10,11 @@ use Rattle.base.specs.BigEndian.{number_at, bytes_of}
 use Rattle.blheli_telemetry.specs.Crc.{crc_bit, crc_bits, crc_byte, crc_from, crc_of}
 use Rattle.blheli_telemetry.specs.Frame.{telemetry_of, payload_of, read_frame}
 use Rattle.blheli_telemetry.specs.Parser.{shifted_down, push_of}
-use Rattle.blheli_telemetry.specs.declared.parser.Parsed.{Parsed}
-use Rattle.blheli_telemetry.specs.declared.parser.Parsed.TheVariants.{Sample, Nothing}
+use Rattle.blheli_telemetry.specs.declared.frame.EscTelemetry.{EscTelemetry}
 use Rattle.base.specs.Due.{due}
 use Rattle.esc_lanes.specs.Request.{same_request}
 use Rattle.esc_feedback.specs.Manager.{closed_by_sample}
-use Rattle.esc_fault.specs.Fault.{after_hearing, quiet_window, may_recover}
+use Rattle.esc_fault.specs.Fault.{quiet_window, may_recover}
 use Rattle.esc_feedback.specs.Queueing.{request_exists, next_request, mark_queued}
 use Rattle.esc_feedback.specs.Ack.{ack_on, on_ack}
 use Rattle.esc_feedback.specs.Timeout.{polled_on, poll_timeout}
@@ -78,7 +78,7 @@ after' =
     ++ ((0x0c ∷ []) ∷ cut_wire ∷ acknowledge 1 1 602 602 ∷ bytes 603 (take 5 second) ++ ((0xff ∷ []) ∷ bytes 604 (drop 5 second))))
 
 -- what the claim speaks of, at the rest of a list
-pub record Comes (before after : List Call) (cuts opens : Bool) (bytes : List OnWire) (samples : List Parsed) : Type 0 where
+pub record Comes (before after : List Call) (cuts opens : Bool) (bytes : List OnWire) (samples : List (Option EscTelemetry)) : Type 0 where
   pub is_cut : just_cut (wire (past_after before)) ≡ cuts
   pub is-opened : reopened (rest before after) ≡ opens
   pub hears : heard (rest before after) ≡ bytes
@@ -88,12 +88,12 @@ abbrev same : List OnWire
 same = map byte first ++ cut ∷ map byte second
 
 -- the tenth and the twenty-fourth byte end a frame
-abbrev samples : List Parsed
-samples = replicate 9 Nothing ++ Sample (telemetry_of nine) ∷ (replicate 13 Nothing ++ Sample (telemetry_of second) ∷ [])
+abbrev samples : List (Option EscTelemetry)
+samples = replicate 9 None ++ Some (telemetry_of nine) ∷ (replicate 13 None ++ Some (telemetry_of second) ∷ [])
 
 pub alike : Comes before after true false same samples × Comes before' after' true false same samples
 unfolding number_at bytes_of crc_bit crc_bits crc_byte crc_from crc_of telemetry_of payload_of read_frame shifted_down push_of due same_request
-    closed_by_sample after_hearing quiet_window may_recover request_exists next_request mark_queued ack_on on_ack polled_on poll_timeout framed_on
+    closed_by_sample quiet_window may_recover request_exists next_request mark_queued ack_on on_ack polled_on poll_timeout framed_on
     received_on push_wire try_recover with_sample booked_in record_of read_record request_bytes sample_bytes delivered_bytes failure_bytes idle_bytes
     next_bytes ack_bytes wire_bytes timeout_bytes report_bytes body_bytes answer_bytes step_of enter call_of since wire feed run passed reopened heard
     given
@@ -109,20 +109,20 @@ five = bytes 2 (replicate 5 0x00)
 abbrev ten : List Call
 ten = calls (five ++ five)
 
-abbrev sample : Parsed
-sample = Sample (telemetry_of second)
+abbrev sample : Option EscTelemetry
+sample = Some (telemetry_of second)
 
 -- after a cut they are a frame. With a cut among them, with no cut before them, with an opening among them: one thing that is asked for
 -- fails, and the samples are others
 pub record Apart : Type 0 where
-  pub as-asked : Comes before ten true false (map byte second) (replicate 9 Nothing ++ sample ∷ [])
-  pub other-cuts : Comes before (calls (five ++ cut_wire ∷ five)) true false (replicate 5 (byte 0x00) ++ cut ∷ replicate 5 (byte 0x00)) (replicate 10 Nothing)
-  pub no_cut : Comes (calls (open' ∷ bytes 1 (replicate 9 0x00))) ten false false (map byte second) (sample ∷ replicate 9 Nothing)
-  pub opened-anew : Comes before (calls (five ++ open' ∷ five)) true true (map byte second) (replicate 10 Nothing)
+  pub as-asked : Comes before ten true false (map byte second) (replicate 9 None ++ sample ∷ [])
+  pub other-cuts : Comes before (calls (five ++ cut_wire ∷ five)) true false (replicate 5 (byte 0x00) ++ cut ∷ replicate 5 (byte 0x00)) (replicate 10 None)
+  pub no_cut : Comes (calls (open' ∷ bytes 1 (replicate 9 0x00))) ten false false (map byte second) (sample ∷ replicate 9 None)
+  pub opened-anew : Comes before (calls (five ++ open' ∷ five)) true true (map byte second) (replicate 10 None)
 
 pub apart : Apart
 unfolding number_at bytes_of crc_bit crc_bits crc_byte crc_from crc_of telemetry_of payload_of read_frame shifted_down push_of due same_request
-    closed_by_sample after_hearing quiet_window may_recover request_exists next_request mark_queued ack_on on_ack polled_on poll_timeout framed_on
+    closed_by_sample quiet_window may_recover request_exists next_request mark_queued ack_on on_ack polled_on poll_timeout framed_on
     received_on push_wire try_recover with_sample booked_in record_of read_record request_bytes sample_bytes delivered_bytes failure_bytes idle_bytes
     next_bytes ack_bytes wire_bytes timeout_bytes report_bytes body_bytes answer_bytes step_of enter call_of since wire feed run passed reopened heard
     given

@@ -2,17 +2,16 @@
 use mathlib.Core.Path.{◌≡◌, refl, sym, ◌∙◌, ap}
 use mathlib.Core.Bool.{Bool, true, false, ◌||◌, true≢false, false≢true}
 use mathlib.Core.List.{List, [], ◌∷◌, ◌++◌}
-use mathlib.Core.Option.{Option, none, some}
+use Rattle.std.specs.Prelude.{Option, None, Some, is_some}
 use Prim.Native.Nat.{ℕ}
 use Rattle.base.specs.Reply.{Reply, accepted, refused}
 use Rattle.blheli_telemetry.specs.Parser.{push_of}
-use Rattle.blheli_telemetry.specs.declared.parser.Parsed.{Parsed}
+use Rattle.blheli_telemetry.specs.declared.frame.EscTelemetry.{EscTelemetry}
 use Rattle.esc_records.specs.Record.{read_record}
 use Rattle.esc_unit.specs.Unit.{call_of}
 use Rattle.esc_records.specs.declared.record.Record.{Record}
 use Rattle.esc_answers.specs.declared.answer.Answer.{Answer}
 use Rattle.esc_unit.specs.declared.unit.Unit.{Unit}
-use Rattle.base.specs.Maybe.{is}
 use Rattle.booking.specs.History.{Call, Opening, Byte, Seen, seen, Since, then, since_event, since}
 use Rattle.booking.specs.Wire.{OnWire, byte, cut, on_wire, wire, frame_at, parsed}
 use Rattle.booking.specs.Run.{run}
@@ -24,7 +23,7 @@ use Rattle.booking.proofs.Traced.{Fits, fits_after, called}
 use Rattle.booking.proofs.FramedAlike.{frame-local}
 
 -- what the rule gives at each byte to come, after a wire
-unfoldable along : List OnWire → List OnWire → List Parsed
+unfoldable along : List OnWire → List OnWire → List (Option EscTelemetry)
 along w [] = []
 along w (byte b ∷ later) = parsed (frame_at w b) ∷ along (byte b ∷ w) later
 along w (cut ∷ later) = along (cut ∷ w) later
@@ -39,7 +38,7 @@ along-local (cut ∷ later) same v w = along-local later (cut ∷ same) v w
 module _ (s : Since) (u : Unit) (i : UnitAt s.opening s.past u) (later : List Passed) where
   -- where it leaves t, what comes later is known
   abbrev Known : Unit → Type 0
-  Known v = (t : Since) → Fits (some t) v → reopened later ≡ false → given later ≡ along (wire t.past) (heard later)
+  Known v = (t : Since) → Fits (Some t) v → reopened later ≡ false → given later ≡ along (wire t.past) (heard later)
 
   gives : (b : ℕ) → (push_of u.manager.parser b).parsed ≡ parsed (frame_at (wire s.past) b)
   gives b = ap (λ (z : Unit). (push_of z.manager.parser b).parsed) i.state ∙ given-at s.past i.p i.parser b
@@ -47,18 +46,18 @@ module _ (s : Since) (u : Unit) (i : UnitAt s.opening s.past u) (later : List Pa
   on-wire : (b : Option Byte) (k : Bool) → given later ≡ along (on_wire b k (wire s.past)) (heard later)
       → given_at u.manager.parser b (given later) ≡ along (wire s.past) (on_wire b k (heard later))
   unfolding along
-  on-wire none true e = e
-  on-wire none false e = e
-  on-wire (some b) k e = rw (gives b.value, e)
+  on-wire None true e = e
+  on-wire None false e = e
+  on-wire (Some b) k e = rw (gives b.value, e)
 
-  one-shown : (e : Seen) (v : Unit) (o : Option Opening) → Fits (then o e (some s)) v → (is o || reopened later) ≡ false → Known v
+  one-shown : (e : Seen) (v : Unit) (o : Option Opening) → Fits (then o e (Some s)) v → (is_some o || reopened later) ≡ false → Known v
       → given_at u.manager.parser e.wire.byte (given later) ≡ along (wire s.past) (on_wire e.wire.byte e.wire.cut (heard later))
   unfolding wire
-  one-shown e v none fits shut known =
+  one-shown e v None fits shut known =
       on-wire e.wire.byte e.wire.cut (known (record { opening = s.opening; past = e ∷ s.past }) fits shut)
-  one-shown e v (some o) fits shut known = absurd (true≢false shut)
+  one-shown e v (Some o) fits shut known = absurd (true≢false shut)
 
-  one-call : (v : Unit) (x : Reply Record) (y : Reply Answer) → Fits (since_event x y (some s)) v → reopened (passed_in u.manager.parser x y later) ≡ false
+  one-call : (v : Unit) (x : Reply Record) (y : Reply Answer) → Fits (since_event x y (Some s)) v → reopened (passed_in u.manager.parser x y later) ≡ false
       → Known v
       → given (passed_in u.manager.parser x y later) ≡ along (wire s.past) (heard (passed_in u.manager.parser x y later))
   unfolding given heard reopened
@@ -66,12 +65,12 @@ module _ (s : Since) (u : Unit) (i : UnitAt s.opening s.past u) (later : List Pa
   one-call v (accepted r) (refused n) fits shut known = known s fits shut
   one-call v (accepted r) (accepted a) fits shut known = one-shown (seen r a) v (seen r a).opening fits shut known
 
-given-along : (cs : List Call) (s : Since) (u : Unit) → Fits (some s) u → reopened (passed u cs) ≡ false
+given-along : (cs : List Call) (s : Since) (u : Unit) → Fits (Some s) u → reopened (passed u cs) ≡ false
     → given (passed u cs) ≡ along (wire s.past) (heard (passed u cs))
 unfolding passed given heard along
 given-along [] s u i shut = refl
 given-along (c ∷ cs) s u i shut =
-    one-call s u i (passed v cs) v (read_record c.bytes) (call_of u c.bytes c.room).reply (called (some s) u i c.bytes c.room).fits shut
+    one-call s u i (passed v cs) v (read_record c.bytes) (call_of u c.bytes c.room).reply (called (Some s) u i c.bytes c.room).fits shut
     (λ t fits k. given-along cs t v fits k)
   where
     v : Unit
@@ -82,7 +81,7 @@ module _ (before after : List Call) (shut : reopened (rest before after) ≡ fal
   abbrev ByWire : Type 0
   ByWire = given (rest before after) ≡ along (cut ∷ []) (heard (rest before after))
 
-  at_cut : (s : Since) → Fits (some s) (run before).unit → (w : List OnWire) → wire s.past ≡ w → just_cut w ≡ true → ByWire
+  at_cut : (s : Since) → Fits (Some s) (run before).unit → (w : List OnWire) → wire s.past ≡ w → just_cut w ≡ true → ByWire
   at_cut s i [] e z = absurd (false≢true z)
   at_cut s i (byte b ∷ w) e z = absurd (false≢true z)
   at_cut s i (cut ∷ w) e z =
@@ -92,8 +91,8 @@ module _ (before after : List Call) (shut : reopened (rest before after) ≡ fal
 
   opened : (s : Option Since) → Fits s (run before).unit → just_cut (wire (past_of s)) ≡ true → ByWire
   unfolding wire
-  opened none i z = absurd (false≢true z)
-  opened (some s) i z = at_cut s i (wire s.past) refl z
+  opened None i z = absurd (false≢true z)
+  opened (Some s) i z = at_cut s i (wire s.past) refl z
 
   from_cut : just_cut (wire (past_after before)) ≡ true → ByWire
   from_cut z = opened (since (run before).history) (fits_after before) z

@@ -1,7 +1,7 @@
 -- Lists on which the claims on framing say something: the same bytes after a cut are a frame whatever came before; a cut among ten bytes undoes one.
 use mathlib.Core.Path.{◌≡◌, refl}
 use mathlib.Core.List.{List, [], ◌∷◌, ◌++◌, map}
-use mathlib.Core.Option.{Option, none, some}
+use Rattle.std.specs.Prelude.{Option, None, Some}
 use Prim.Native.Nat.{ℕ}
 use lib.ListN.{replicate}
 use Rattle.base.specs.BigEndian.{number_at, bytes_of}
@@ -36,10 +36,10 @@ use Rattle.booking.proofs.Live.{past_by}
 abbrev ended_by : ℕ → List (List ℕ) → Option (List ℕ)
 ended_by b records = frame_at (wire (past_by (open' ∷ records))) b
 
-pub framing : (ended_by 0x5a (map (byte 1) (0xaa ∷ 0x00 ∷ 0x00 ∷ []) ++ cut_wire ∷ map (byte 2) nine) ≡ some (nine ++ 0x5a ∷ []))
-    × (ended_by 0x5a (cut_wire ∷ map (byte 7) nine) ≡ some (nine ++ 0x5a ∷ []))
-    × (ended_by 0x00 (map (byte 1) (replicate 9 0x00)) ≡ some (replicate 10 0x00))
-    × (ended_by 0x00 (map (byte 1) (replicate 5 0x00) ++ cut_wire ∷ map (byte 1) (replicate 4 0x00)) ≡ none)
+pub framing : (ended_by 0x5a (map (byte 1) (0xaa ∷ 0x00 ∷ 0x00 ∷ []) ++ cut_wire ∷ map (byte 2) nine) ≡ Some (nine ++ 0x5a ∷ []))
+    × (ended_by 0x5a (cut_wire ∷ map (byte 7) nine) ≡ Some (nine ++ 0x5a ∷ []))
+    × (ended_by 0x00 (map (byte 1) (replicate 9 0x00)) ≡ Some (replicate 10 0x00))
+    × (ended_by 0x00 (map (byte 1) (replicate 5 0x00) ++ cut_wire ∷ map (byte 1) (replicate 4 0x00)) ≡ None)
 unfolding number_at bytes_of crc_bit crc_bits crc_byte crc_from crc_of telemetry_of payload_of due record_of read_record request_bytes sample_bytes
     delivered_bytes failure_bytes idle_bytes next_bytes ack_bytes wire_bytes timeout_bytes body_bytes answer_bytes since wire latest frame_at
     open_request started_at latest_frame newly_started started_request faulted quiet_since retries timeout_for recovers note turn last_queued existing

@@ -1,7 +1,7 @@
 -- The parser gives a sample exactly at the frame ends: what it holds are the latest bytes since the latest cut or frame end.
 use mathlib.Core.Path.{◌≡◌, refl, sym, ◌∙◌}
 use mathlib.Core.List.{List, [], ◌∷◌, ◌++◌}
-use mathlib.Core.Option.{Option, none, some}
+use Rattle.std.specs.Prelude.{Option, None, Some, is_some}
 use mathlib.Core.Bool.{Bool, true, false, not, ◌&&◌}
 use Prim.Native.Nat.{ℕ, zero, suc, ◌+◌, ◌-◌, ◌≤◌, ◌<◌}
 use native.Mathlib.Omega.{arith}
@@ -16,35 +16,34 @@ use Rattle.blheli_telemetry.specs.Stream.{given_after, held_after, counted_after
 use Rattle.blheli_telemetry.specs.declared.parser.ParserStats.{ParserStats}
 use Rattle.base.proofs.ByCases.{below_or_not}
 use Rattle.blheli_telemetry.proofs.StreamLaws.{few-held, frame-end, wrong-check}
-use Rattle.base.specs.Maybe.{is}
 use Rattle.booking.specs.Wire.{OnWire, byte, cut, one_more, latest, frame_at, parsed}
 
 -- the last n of a list, if it has so many
 unfoldable pub last_of : ℕ → List ℕ → Option (List ℕ)
-last_of n xs = pick (leb n (length xs)) (some (drop (length xs - n) xs)) none
+last_of n xs = pick (leb n (length xs)) (Some (drop (length xs - n) xs)) None
 
-last-in : (n : ℕ) (xs : List ℕ) → n ≤ length xs → last_of n xs ≡ some (drop (length xs - n) xs)
+last-in : (n : ℕ) (xs : List ℕ) → n ≤ length xs → last_of n xs ≡ Some (drop (length xs - n) xs)
 unfolding last_of
 last-in n xs h = rw (le-leb _ _ h)
 
-last_out : (n : ℕ) (xs : List ℕ) → length xs < n → last_of n xs ≡ none
+last_out : (n : ℕ) (xs : List ℕ) → length xs < n → last_of n xs ≡ None
 unfolding last_of
 last_out n xs h = rw (lt-leb _ _ h)
 
-last-zero : (xs : List ℕ) → last_of 0 xs ≡ some []
+last-zero : (xs : List ℕ) → last_of 0 xs ≡ Some []
 last-zero xs =
     let e : length xs - 0 ≡ length xs = omega arith in
     rw (last-in 0 xs (omega arith), e, drop-length xs)
 
-last_more : (n : ℕ) (xs : List ℕ) (b : ℕ) → last_of (suc n) (xs ++ b ∷ []) ≡ one_more none (last_of n xs) b
+last_more : (n : ℕ) (xs : List ℕ) (b : ℕ) → last_of (suc n) (xs ++ b ∷ []) ≡ one_more None (last_of n xs) b
 last_more n xs b = below_or_not (length xs) n outside inside
   where
-    outside : length xs < n → last_of (suc n) (xs ++ b ∷ []) ≡ one_more none (last_of n xs) b
+    outside : length xs < n → last_of (suc n) (xs ++ b ∷ []) ≡ one_more None (last_of n xs) b
     outside h =
         let k : length (xs ++ b ∷ []) < suc n = simp length-append (omega arith) in
         rw (last_out (suc n) (xs ++ b ∷ []) k, last_out n xs h)
 
-    inside : n ≤ length xs → last_of (suc n) (xs ++ b ∷ []) ≡ one_more none (last_of n xs) b
+    inside : n ≤ length xs → last_of (suc n) (xs ++ b ∷ []) ≡ one_more None (last_of n xs) b
     inside h =
         let e : length (xs ++ b ∷ []) - suc n ≡ length xs - n = simp length-append (omega arith) in
         let k : suc n ≤ length (xs ++ b ∷ []) = simp length-append (omega arith) in
@@ -94,15 +93,15 @@ stats_with good wrong s =
 pub record Byted (w : List OnWire) (xs : List ℕ) (b : ℕ) : Type 0 where
   pub gives : given_after xs b ≡ parsed (frame_at w b)
   pub holds : Holds (byte b ∷ w) (held_after xs b)
-  pub counts : (s : ParserStats) → counted_after xs b s ≡ stats_with (is (frame_at w b)) (is (latest w 9) && not (is (frame_at w b))) s
+  pub counts : (s : ParserStats) → counted_after xs b s ≡ stats_with (is_some (frame_at w b)) (is_some (latest w 9) && not (is_some (frame_at w b))) s
 
 module _ (w : List OnWire) (xs : List ℕ) (b : ℕ) (i : Holds w xs) where
-  all-nine : length xs ≡ 9 → latest w 9 ≡ some xs
+  all-nine : length xs ≡ 9 → latest w 9 ≡ Some xs
   all-nine h =
       let e : length xs - 9 ≡ 0 = omega arith in
       i.last 9 (omega arith) ∙ last-in 9 xs (omega arith) ∙ rw e
 
-  too_few : length xs < 9 → latest w 9 ≡ none
+  too_few : length xs < 9 → latest w 9 ≡ None
   too_few h = i.last 9 (omega arith) ∙ last_out 9 xs h
 
   few : length xs < 9 → Byted w xs b

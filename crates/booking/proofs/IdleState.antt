@@ -1,7 +1,8 @@
 -- The idle check's state as a function of the history: a lane's count and newest sample are those of its streak.
 use mathlib.Core.Path.{◌≡◌, refl, sym, ◌∙◌, ap, subst}
 use mathlib.Core.List.{List, [], ◌∷◌}
-use mathlib.Core.Option.{Option, none, some, none-ne-some}
+use Rattle.std.specs.Prelude.{Option, None, Some}
+use Rattle.std.proofs.lemmas.Option.{none-some}
 use mathlib.Core.Bool.{Bool, true, false, ◌&&◌}
 use Prim.Native.Nat.{ℕ, suc, ◌+◌, min}
 use native.Mathlib.Omega.{arith}
@@ -16,17 +17,12 @@ use Rattle.esc_lanes.specs.declared.output.Lane.{Lane}
 use Rattle.esc_lanes.specs.declared.output.Lane.TheVariants.{Output1, Output2, Output3, Output4}
 use Rattle.esc_lanes.specs.declared.request.EscTelemetryUpdate.{EscTelemetryUpdate}
 use Rattle.esc_idle.specs.declared.idle_config.EscIdleQualificationConfig.{EscIdleQualificationConfig}
-use Rattle.esc_idle.specs.declared.idle_lane.Newest.{Newest}
-use Rattle.esc_idle.specs.declared.idle_lane.Newest.TheVariants as newest
 use Rattle.esc_idle.specs.declared.idle_lane.IdleLane.{IdleLane}
 use Rattle.esc_idle.specs.declared.idle_verdict.EscIdleQualificationFailure.TheVariants.{InvalidConfig, Overspeed, Timeout}
 use Rattle.esc_idle.specs.declared.idle_verdict.EscIdleQualificationStatus.{EscIdleQualificationStatus}
 use Rattle.esc_idle.specs.declared.idle_verdict.EscIdleQualificationStatus.TheVariants.{Pending, Qualified, Failed}
-use Rattle.esc_idle.specs.declared.idle_verdict.Terminal.{Terminal}
-use Rattle.esc_idle.specs.declared.idle_verdict.Terminal.TheVariants as terminal
 use Rattle.esc_idle.specs.declared.idle.EscIdleQualification.{EscIdleQualification}
 use Rattle.esc_idle.specs.declared.idle.EscIdleJudged.{EscIdleJudged}
-use Rattle.esc_answers.specs.declared.answer.IdleAnswer.TheVariants.{NoCheck, Status}
 use Rattle.base.specs.Maybe.{earliest}
 use Rattle.esc_idle.proofs.IdleLaws.{decided-again, status-stands, observe-stands}
 use Rattle.booking.specs.History.{Check, Seen, Past}
@@ -49,19 +45,19 @@ use Rattle.booking.specs.IdleRule.{
 }
 use Rattle.booking.proofs.Lanes.{four, change-kept}
 
-abbrev newest_of : List EscTelemetryUpdate → Newest
-newest_of [] = newest.None
-newest_of (u ∷ us) = newest.At u.observation.observed_at_ms
+abbrev newest_of : List EscTelemetryUpdate → Option ℕ
+newest_of [] = None
+newest_of (u ∷ us) = Some u.observation.observed_at_ms
 
 abbrev lane_from : List EscTelemetryUpdate → IdleLane
-lane_from us = record { consecutive_samples = tally us; newest = newest_of us }
+lane_from us = record { consecutive_samples = tally us; newest_ms = newest_of us }
 
 abbrev pub lanes_of : (Lane → List EscTelemetryUpdate) → List IdleLane
 lanes_of f = four (λ l. lane_from (f l))
 
 -- a check that has given no verdict
 abbrev check_at : Check → (Lane → List EscTelemetryUpdate) → EscIdleQualification
-check_at k f = record { config = k.config; started_at_ms = k.start; lanes = lanes_of f; verdict = record { terminal = terminal.None } }
+check_at k f = record { config = k.config; started_at_ms = k.start; lanes = lanes_of f; verdict = None }
 
 expire-is : (c : EscIdleQualificationConfig) (now : ℕ) (us : List EscTelemetryUpdate) → expire_lane c.max_sample_age_ms now (lane_from us) ≡
     lane_from (fresh c now us)
@@ -82,7 +78,7 @@ count-is c u us = go (ltb (erpm u) c.min_erpm_div100)
     more = omega arith
 
     go : (b : Bool)
-        → pick b clear_lane (record { consecutive_samples = min (tally us + 1) 255; newest = newest.At u.observation.observed_at_ms })
+        → pick b clear_lane (record { consecutive_samples = min (tally us + 1) 255; newest_ms = Some u.observation.observed_at_ms })
         ≡ lane_from (pick b [] (u ∷ us))
     go true = refl
     go false = rw more
@@ -94,23 +90,18 @@ and4 true true false d = refl
 and4 true true true false = refl
 and4 true true true true = refl
 
--- the unit's memory of a verdict
-abbrev pub terminal_of : Option EscIdleQualificationStatus → Terminal
-terminal_of none = terminal.None
-terminal_of (some v) = terminal.Some v
-
 -- a judgement, and what is left of the check
 record Judged (k : Check) (f : Lane → List EscTelemetryUpdate) (v : EscIdleQualificationStatus) (j : EscIdleJudged) : Type 0 where
   status : j.status ≡ v
   config : j.idle.config ≡ k.config
   start : j.idle.started_at_ms ≡ k.start
-  verdict : j.idle.verdict.terminal ≡ terminal_of (verdict_in (some (Status v)))
-  lanes : verdict_in (some (Status v)) ≡ none → j.idle.lanes ≡ lanes_of f
+  verdict : j.idle.verdict ≡ verdict_in (Some (Some v))
+  lanes : verdict_in (Some (Some v)) ≡ None → j.idle.lanes ≡ lanes_of f
 
-final : (k : Check) (f f' : Lane → List EscTelemetryUpdate) (v : EscIdleQualificationStatus) → verdict_in (some (Status v)) ≡ some v → Judged k f' v
+final : (k : Check) (f f' : Lane → List EscTelemetryUpdate) (v : EscIdleQualificationStatus) → verdict_in (Some (Some v)) ≡ Some v → Judged k f' v
     (decided (check_at k f) v)
 final k f f' v e =
-    record { status = refl; config = refl; start = refl; verdict = rw e; lanes = λ z. absurd (none-ne-some v (sym z ∙ e)) }
+    record { status = refl; config = refl; start = refl; verdict = rw e; lanes = λ z. absurd (none-some v (sym z ∙ e)) }
 
 -- every lane's streak, cleared where its newest has expired
 abbrev freshened : Check → (Lane → List EscTelemetryUpdate) → ℕ → Lane → List EscTelemetryUpdate
@@ -120,7 +111,7 @@ abbrev enough : Check → (Lane → List EscTelemetryUpdate) → Lane → Bool
 enough k g l = leb k.config.required_consecutive_samples (tally (g l))
 
 abbrev timeout_of : (Lane → List EscTelemetryUpdate) → EscIdleQualificationStatus
-timeout_of g = Failed (Timeout (tally (g Output1)) (tally (g Output2)) (tally (g Output3)) (tally (g Output4)))
+timeout_of g = Failed (Timeout (tally (g Output1) ∷ tally (g Output2) ∷ tally (g Output3) ∷ tally (g Output4) ∷ []))
 
 weigh : (k : Check) (g : Lane → List EscTelemetryUpdate) (a d : Bool)
     → Judged k g
@@ -181,21 +172,21 @@ measured-is k u f now ok =
 
 -- what the check is asked: its status, or a sample
 abbrev pub asks : EscIdleQualification → Option EscTelemetryUpdate → ℕ → EscIdleJudged
-asks q none now = status_of q now
-asks q (some u) now = observe_of q u now
+asks q None now = status_of q now
+asks q (Some u) now = observe_of q u now
 
 asks-is : (k : Check) (f : Lane → List EscTelemetryUpdate) (x : Option EscTelemetryUpdate) (now : ℕ)
     → Judged k (λ l. streak_at k x now l (f l)) (pick (valid k.config) (judged_at k x now f) (Failed InvalidConfig)) (asks (check_at k f) x now)
 unfolding status_of observe_of
-asks-is k f none now = rw (← valid-is k.config) (go (valid_settings k.config))
+asks-is k f None now = rw (← valid-is k.config) (go (valid_settings k.config))
   where
     go : (v : Bool)
         → Judged k (freshened k f now)
         (pick v (settled k now (freshened k f now)) (Failed InvalidConfig))
-        (unless_standing (check_at k f) (weighed (fresh_at (check_at k f) now) now) (pick v terminal.None (terminal.Some (Failed InvalidConfig))))
+        (unless_standing (check_at k f) (weighed (fresh_at (check_at k f) now) now) (pick v None (Some (Failed InvalidConfig))))
     go true = settle_is k f now
     go false = final k f (freshened k f now) (Failed InvalidConfig) refl
-asks-is k f (some u) now = rw (← valid-is k.config) (go (valid_settings k.config) refl)
+asks-is k f (Some u) now = rw (← valid-is k.config) (go (valid_settings k.config) refl)
   where
     after : Bool → Lane → List EscTelemetryUpdate
     after d l = pick d (fresh k.config now (joined k.config u l (f l))) (f l)
@@ -209,113 +200,113 @@ asks-is k f (some u) now = rw (← valid-is k.config) (go (valid_settings k.conf
     grace ok false = record { status = refl; config = refl; start = refl; verdict = refl; lanes = λ z. refl }
 
     go : (v : Bool) → valid_settings k.config ≡ v
-        → Judged k (λ l. streak_at k (some u) now l (f l))
-        (pick v (judged_at k (some u) now f) (Failed InvalidConfig))
+        → Judged k (λ l. streak_at k (Some u) now l (f l))
+        (pick v (judged_at k (Some u) now f) (Failed InvalidConfig))
         (unless_standing (check_at k f) (pick (past_grace k now) (measured (check_at k f) u now) (saying (check_at k f) Pending))
-        (pick v terminal.None (terminal.Some (Failed InvalidConfig))))
+        (pick v None (Some (Failed InvalidConfig))))
     go true ok = grace ok (past_grace k now)
-    go false ok = final k f (λ l. streak_at k (some u) now l (f l)) (Failed InvalidConfig) refl
+    go false ok = final k f (λ l. streak_at k (Some u) now l (f l)) (Failed InvalidConfig) refl
 
 -- over histories: the check that belongs to one
 pub record Checked (h : Past) (q : EscIdleQualification) : Type 0 where
-  pub settings : check h ≡ some (record { config = q.config; start = q.started_at_ms })
-  pub terminal : q.verdict.terminal ≡ terminal_of (verdict h)
-  pub lanes : verdict h ≡ none → q.lanes ≡ lanes_of (streak h)
+  pub settings : check h ≡ Some (record { config = q.config; start = q.started_at_ms })
+  pub said : q.verdict ≡ verdict h
+  pub lanes : verdict h ≡ None → q.lanes ≡ lanes_of (streak h)
 
-abbrev pub IdleAt : Past → Bool → EscIdleQualification → Type 0
-IdleAt h false q = check h ≡ none
-IdleAt h true q = Checked h q
+abbrev pub IdleAt : Past → Option EscIdleQualification → Type 0
+IdleAt h None = check h ≡ None
+IdleAt h (Some q) = Checked h q
 
-earliest-old : (x : Option EscIdleQualificationStatus) (v : EscIdleQualificationStatus) → earliest x (some v) ≡ some v
-earliest-old none v = refl
-earliest-old (some u) v = refl
+earliest-old : (x : Option EscIdleQualificationStatus) (v : EscIdleQualificationStatus) → earliest x (Some v) ≡ Some v
+earliest-old None v = refl
+earliest-old (Some u) v = refl
 
-earliest-none : (x : Option EscIdleQualificationStatus) → earliest x none ≡ x
-earliest-none none = refl
-earliest-none (some u) = refl
+earliest-none : (x : Option EscIdleQualificationStatus) → earliest x None ≡ x
+earliest-none None = refl
+earliest-none (Some u) = refl
 
 asks-ended : (q : EscIdleQualification) (v : EscIdleQualificationStatus) (x : Option EscTelemetryUpdate) (now : ℕ)
-    → q.verdict.terminal ≡ terminal.Some v → asks q x now ≡ saying q v
-asks-ended q v none now e = status-stands q now v (ap (standing q) e) ∙ decided-again q v e
-asks-ended q v (some u) now e = observe-stands q u now v (ap (standing q) e) ∙ decided-again q v e
+    → q.verdict ≡ Some v → asks q x now ≡ saying q v
+asks-ended q v None now e = status-stands q now v (ap (standing q) e) ∙ decided-again q v e
+asks-ended q v (Some u) now e = observe-stands q u now v (ap (standing q) e) ∙ decided-again q v e
 
 module _ (h : Past) (q : EscIdleQualification) (i : Checked h q) (x : Option EscTelemetryUpdate) (now : ℕ) where
   abbrev k : Check
   k = record { config = q.config; start = q.started_at_ms }
 
-  running-is : verdict h ≡ none → q ≡ check_at k (streak h)
+  running-is : verdict h ≡ None → q ≡ check_at k (streak h)
   running-is v =
       let a = i.lanes v in
-      let b = i.terminal ∙ ap terminal_of v in
-      λ j. record { config = q.config; started_at_ms = q.started_at_ms; lanes = a j; verdict = record { terminal = b j } }
+      let b = i.said ∙ v in
+      λ j. record { config = q.config; started_at_ms = q.started_at_ms; lanes = a j; verdict = b j }
 
-  found : verdict h ≡ none → Judged k (λ l. streak_at k x now l (streak h l)) (pick (valid q.config) (judged_at k x now (streak h)) (Failed
+  found : verdict h ≡ None → Judged k (λ l. streak_at k x now l (streak h l)) (pick (valid q.config) (judged_at k x now (streak h)) (Failed
       InvalidConfig)) (asks q x now)
   found v =
       subst (λ (z : EscIdleQualification). Judged k (λ l. streak_at k x now l (streak h l)) (pick (valid q.config) (judged_at k x now (streak h))
       (Failed InvalidConfig)) (asks z x now))
       (sym (running-is v)) (asks-is k (streak h) x now)
 
-  pub status-is : Status (asks q x now).status ≡ judged h x now
+  pub status-is : Some (asks q x now).status ≡ judged h x now
   unfolding judged
   status-is = go (verdict h) refl
     where
-      go : (m : Option EscIdleQualificationStatus) → verdict h ≡ m → Status (asks q x now).status ≡ judged h x now
-      go none v = ap Status (found v).status ∙ rw (i.settings, v)
-      go (some w) v = rw (asks-ended q w x now (i.terminal ∙ ap terminal_of v), i.settings, v)
+      go : (m : Option EscIdleQualificationStatus) → verdict h ≡ m → Some (asks q x now).status ≡ judged h x now
+      go None v = ap Some (found v).status ∙ rw (i.settings, v)
+      go (Some w) v = rw (asks-ended q w x now (i.said ∙ v), i.settings, v)
 
-  pub asked : (e : Seen) → e.idle.check ≡ none → e.requests.delivered ≡ x → e.idle.status ≡ some (Status (asks q x now).status) → e.now ≡ now
+  pub asked : (e : Seen) → e.idle.check ≡ None → e.requests.delivered ≡ x → e.idle.status ≡ Some (Some (asks q x now).status) → e.now ≡ now
       → Checked (e ∷ h) (asks q x now).idle
   unfolding check verdict streak
   asked e c u s n = go (verdict h) refl
     where
       go : (m : Option EscIdleQualificationStatus) → verdict h ≡ m → Checked (e ∷ h) (asks q x now).idle
-      go (some w) v =
-          rw (asks-ended q w x now (i.terminal ∙ ap terminal_of v))
+      go (Some w) v =
+          rw (asks-ended q w x now (i.said ∙ v))
           (record {
             settings = rw c i.settings;
-            terminal = rw (c, v, earliest-old (verdict_in e.idle.status) w) (i.terminal ∙ ap terminal_of v);
-            lanes = λ z. absurd (none-ne-some w (sym (rw (c, v, earliest-old (verdict_in e.idle.status) w) at z)));
+            said = rw (c, v, earliest-old (verdict_in e.idle.status) w) (i.said ∙ v);
+            lanes = λ z. absurd (none-some w (sym (rw (c, v, earliest-old (verdict_in e.idle.status) w) at z)));
           })
-      go none v =
+      go None v =
           let r = found v in
-          let t : (asks q x now).idle.verdict.terminal ≡ terminal_of (verdict_in (some (Status (asks q x now).status))) =
-          r.verdict ∙ ap (λ (y : EscIdleQualificationStatus). terminal_of (verdict_in (some (Status y)))) (sym r.status) in
+          let t : (asks q x now).idle.verdict ≡ verdict_in (Some (Some (asks q x now).status)) =
+          r.verdict ∙ ap (λ (y : EscIdleQualificationStatus). verdict_in (Some (Some y))) (sym r.status) in
           record {
             settings = rw (c, r.config, r.start) i.settings;
-            terminal = rw (c, s, v, earliest-none (verdict_in (some (Status (asks q x now).status)))) t;
+            said = rw (c, s, v, earliest-none (verdict_in (Some (Some (asks q x now).status)))) t;
             lanes = λ z.
                 rw (c, u, s, n, i.settings)
-                (r.lanes (ap (λ (y : EscIdleQualificationStatus). verdict_in (some (Status y))) (sym r.status)
-                ∙ (rw (c, s, v, earliest-none (verdict_in (some (Status (asks q x now).status)))) at z)));
+                (r.lanes (ap (λ (y : EscIdleQualificationStatus). verdict_in (Some (Some y))) (sym r.status)
+                ∙ (rw (c, s, v, earliest-none (verdict_in (Some (Some (asks q x now).status)))) at z)));
           }
 
-  pub passed-by : (e : Seen) → e.idle.check ≡ none → e.idle.status ≡ none → Checked (e ∷ h) q
+  pub passed-by : (e : Seen) → e.idle.check ≡ None → e.idle.status ≡ None → Checked (e ∷ h) q
   unfolding check verdict streak
   passed-by e c s =
-      record { settings = rw c i.settings; terminal = rw (c, s) i.terminal; lanes = λ z. rw (c, s, i.settings) (i.lanes (rw (c, s) at z)) }
+      record { settings = rw c i.settings; said = rw (c, s) i.said; lanes = λ z. rw (c, s, i.settings) (i.lanes (rw (c, s) at z)) }
 
 -- what shows no status and no 0a
-pub idle-same : (h : Past) (b : Bool) (q : EscIdleQualification) (e : Seen) → e.idle.check ≡ none → e.idle.status ≡ none → IdleAt h b q → IdleAt (e ∷ h) b q
+pub idle-same : (h : Past) (q : Option EscIdleQualification) (e : Seen) → e.idle.check ≡ None → e.idle.status ≡ None → IdleAt h q → IdleAt (e ∷ h) q
 unfolding check
-idle-same h false q e c s i = rw c i
-idle-same h true q e c s i = passed-by h q i none 0 e c s
+idle-same h None e c s i = rw c i
+idle-same h (Some q) e c s i = passed-by h q i None 0 e c s
 
 -- 0a
-pub idle-new : (h : Past) (e : Seen) (k : Check) → e.idle.check ≡ some k → IdleAt (e ∷ h) true (new_idle k.config k.start)
+pub idle-new : (h : Past) (e : Seen) (k : Check) → e.idle.check ≡ Some k → IdleAt (e ∷ h) (Some (new_idle k.config k.start))
 unfolding check verdict streak
-idle-new h e k c = record { settings = rw c; terminal = rw c; lanes = λ z. rw c }
+idle-new h e k c = record { settings = rw c; said = rw c; lanes = λ z. rw c }
 
 -- no check yet
-pub idle-none : (q : EscIdleQualification) → IdleAt [] false q
+pub idle-none : IdleAt [] None
 unfolding check
-idle-none q = refl
+idle-none = refl
 
 -- a status where there is no check
-pub idle-unasked : (h : Past) (q : EscIdleQualification) (e : Seen) → e.idle.check ≡ none → IdleAt h false q → IdleAt (e ∷ h) false q
+pub idle-unasked : (h : Past) (e : Seen) → e.idle.check ≡ None → IdleAt h None → IdleAt (e ∷ h) None
 unfolding check
-idle-unasked h q e c i = rw c i
+idle-unasked h e c i = rw c i
 
-pub unasked-is : (h : Past) (q : EscIdleQualification) (x : Option EscTelemetryUpdate) (now : ℕ) → IdleAt h false q → NoCheck ≡ judged h x now
+pub unasked-is : (h : Past) (x : Option EscTelemetryUpdate) (now : ℕ) → IdleAt h None → None ≡ judged h x now
 unfolding judged
-unasked-is h q x now i = rw i
+unasked-is h x now i = rw i

@@ -1,7 +1,7 @@
 -- What the rule makes of a list since its opening: each event is a record with the rule's answer to it.
 use mathlib.Core.Path.{◌≡◌, refl, sym, ◌∙◌, ap, subst}
 use mathlib.Core.List.{List, [], ◌∷◌}
-use mathlib.Core.Option.{Option, none, some}
+use Rattle.std.specs.Prelude.{Option, None, Some}
 use mathlib.Core.Bool.{Bool, true, false}
 use Prim.Native.Nat.{ℕ}
 use lib.Dec.{leb}
@@ -25,12 +25,12 @@ pub data Lawful (o : Opening) : Past → Type 0 where
   more : {h : Past} (r : Record) → opens r ≡ false → Lawful o h → Lawful o (seen r (answer_to o h r) ∷ h)
 
 abbrev LawfulSince : Option Since → Type 0
-LawfulSince none = Unit {0}
-LawfulSince (some s) = Lawful s.opening s.past
+LawfulSince None = Unit {0}
+LawfulSince (Some s) = Lawful s.opening s.past
 
 -- one record more
 lawful-open : (s : Since) → Lawful s.opening s.past → (r : Record) → LawfulSince (then (seen r (answer_to s.opening s.past r)).opening
-    (seen r (answer_to s.opening s.past r)) (some s))
+    (seen r (answer_to s.opening s.past r)) (Some s))
 lawful-open s i (kind.Open c t) = start
 lawful-open s i (kind.NextRequest now) = more (kind.NextRequest now) refl i
 lawful-open s i (kind.MarkRequestQueued q now) = more (kind.MarkRequestQueued q now) refl i
@@ -48,22 +48,22 @@ lawful-open s i (kind.StoredSample l) = more (kind.StoredSample l) refl i
 lawful-open s i (kind.Figures l) = more (kind.Figures l) refl i
 
 lawful-reply : (s : Option Since) → LawfulSince s → (r : Record) (a : Answer) → reply_to s r ≡ accepted a → LawfulSince (then (seen r a).opening (seen r a) s)
-lawful-reply none i (kind.Open c t) a e = start
-lawful-reply none i (kind.NextRequest now) a e = absurd (refused-accepted 8 a e)
-lawful-reply none i (kind.MarkRequestQueued q now) a e = absurd (refused-accepted 8 a e)
-lawful-reply none i (kind.ActuatorAck k now) a e = absurd (refused-accepted 8 a e)
-lawful-reply none i (kind.PollTimeout now) a e = absurd (refused-accepted 8 a e)
-lawful-reply none i (kind.WireByte x now) a e = absurd (refused-accepted 8 a e)
-lawful-reply none i kind.WireDiscontinuity a e = absurd (refused-accepted 8 a e)
-lawful-reply none i (kind.TryRecover armed now) a e = absurd (refused-accepted 8 a e)
-lawful-reply none i kind.TakeBackAfterRetries a e = absurd (refused-accepted 8 a e)
-lawful-reply none i kind.RefreshWireStats a e = absurd (refused-accepted 8 a e)
-lawful-reply none i (kind.IdleCheck c t) a e = absurd (refused-accepted 8 a e)
-lawful-reply none i (kind.IdleStatus now) a e = absurd (refused-accepted 8 a e)
-lawful-reply none i kind.Report a e = absurd (refused-accepted 8 a e)
-lawful-reply none i (kind.StoredSample l) a e = absurd (refused-accepted 8 a e)
-lawful-reply none i (kind.Figures l) a e = absurd (refused-accepted 8 a e)
-lawful-reply (some s) i r a e = subst (λ (z : Answer). LawfulSince (then (seen r z).opening (seen r z) (some s))) (accepted-is _ a e) (lawful-open s i r)
+lawful-reply None i (kind.Open c t) a e = start
+lawful-reply None i (kind.NextRequest now) a e = absurd (refused-accepted 8 a e)
+lawful-reply None i (kind.MarkRequestQueued q now) a e = absurd (refused-accepted 8 a e)
+lawful-reply None i (kind.ActuatorAck k now) a e = absurd (refused-accepted 8 a e)
+lawful-reply None i (kind.PollTimeout now) a e = absurd (refused-accepted 8 a e)
+lawful-reply None i (kind.WireByte x now) a e = absurd (refused-accepted 8 a e)
+lawful-reply None i kind.WireDiscontinuity a e = absurd (refused-accepted 8 a e)
+lawful-reply None i (kind.TryRecover armed now) a e = absurd (refused-accepted 8 a e)
+lawful-reply None i kind.TakeBackAfterRetries a e = absurd (refused-accepted 8 a e)
+lawful-reply None i kind.RefreshWireStats a e = absurd (refused-accepted 8 a e)
+lawful-reply None i (kind.IdleCheck c t) a e = absurd (refused-accepted 8 a e)
+lawful-reply None i (kind.IdleStatus now) a e = absurd (refused-accepted 8 a e)
+lawful-reply None i kind.Report a e = absurd (refused-accepted 8 a e)
+lawful-reply None i (kind.StoredSample l) a e = absurd (refused-accepted 8 a e)
+lawful-reply None i (kind.Figures l) a e = absurd (refused-accepted 8 a e)
+lawful-reply (Some s) i r a e = subst (λ (z : Answer). LawfulSince (then (seen r z).opening (seen r z) (Some s))) (accepted-is _ a e) (lawful-open s i r)
 
 lawful-event : (s : Option Since) → LawfulSince s → (room : ℕ) (x : Reply Record) → LawfulSince (since_event x (reply_on room s x) s)
 lawful-event s i room (refused n) = i
@@ -82,6 +82,6 @@ unfolding trace_of since rule_for
 lawful-trace [] h i = i
 lawful-trace (c ∷ cs) h i = lawful-trace cs (record { call = c; reply = rule_for h c } ∷ h) (lawful-event (since h) i c.room (read_record c.bytes))
 
-pub lawful-after : (cs : List Call) (s : Since) → since (run cs).history ≡ some s → Lawful s.opening s.past
+pub lawful-after : (cs : List Call) (s : Since) → since (run cs).history ≡ Some s → Lawful s.opening s.past
 unfolding since
 lawful-after cs s e = subst LawfulSince (ap since (sym (traced cs)) ∙ e) (lawful-trace cs [] tt)

@@ -3,7 +3,7 @@
 use mathlib.Core.Path.{◌≡◌, refl}
 use mathlib.Core.List.{List, [], ◌∷◌, ◌++◌, map}
 use mathlib.Core.Bool.{true}
-use mathlib.Core.Option.{Option, none, some}
+use Rattle.std.specs.Prelude.{Option, None, Some, is_some}
 use Prim.Native.Nat.{ℕ}
 use Rattle.base.specs.Reply.{Reply, accepted, refused}
 use Rattle.base.specs.BigEndian.{number_at, bytes_of}
@@ -29,7 +29,6 @@ use Rattle.esc_answers.specs.Answer.{
   reply_bytes,
 }
 use Rattle.esc_answers.specs.declared.answer.Answer.{Answer}
-use Rattle.base.specs.Maybe.{is}
 use Rattle.booking.specs.History.{Past, History, said_by, update_in, since}
 use Rattle.booking.specs.Wire.{wire, latest, frame_at}
 use Rattle.booking.specs.Booking.{open_request, started_at, latest_frame, newly_started, started_request}
@@ -71,8 +70,8 @@ reading u =
     }
 
 abbrev readings_in : Option EscTelemetryUpdate → List Reading
-readings_in none = []
-readings_in (some u) = reading u ∷ []
+readings_in None = []
+readings_in (Some u) = reading u ∷ []
 
 abbrev readings_of : Reply Answer → List Reading
 readings_of (refused n) = []
@@ -108,7 +107,7 @@ abbrev past : Past
 past = past_by flight
 
 -- seven queued: four delivered, a timeout of each kind, and one open
-pub balance : (count queued past ≡ 7) × (count delivered past ≡ 4) × (count ack_timeout past ≡ 1) × (count response_timeout past ≡ 1) × (is (open_request
+pub balance : (count queued past ≡ 7) × (count delivered past ≡ 4) × (count ack_timeout past ≡ 1) × (count response_timeout past ≡ 1) × (is_some (open_request
     past) ≡ true)
 unfolding number_at bytes_of crc_bit crc_bits crc_byte crc_from crc_of telemetry_of payload_of due record_of read_record request_bytes sample_bytes
     delivered_bytes failure_bytes idle_bytes next_bytes ack_bytes wire_bytes timeout_bytes body_bytes answer_bytes since wire latest frame_at

@@ -1,7 +1,7 @@
 -- The manager's state as a function of the history: all of it but the bytes in the parser's array.
 use mathlib.Core.Path.{◌≡◌, refl, sym, ◌∙◌}
 use mathlib.Core.List.{List, [], ◌∷◌}
-use mathlib.Core.Option.{Option, none, some}
+use Rattle.std.specs.Prelude.{Option, None, Some, is_some}
 use mathlib.Core.Bool.{Bool, true, false, ◌&&◌}
 use Prim.Native.Nat.{ℕ, max}
 use lib.Dec.{eqb}
@@ -16,53 +16,49 @@ use Rattle.blheli_telemetry.proofs.StreamLaws.{given-by-held, held-by-held, coun
 use Rattle.esc_lanes.specs.Output.{lane_of}
 use Rattle.esc_lanes.specs.Request.{same_request}
 use Rattle.esc_feedback.specs.Stats.{stats_of}
-use Rattle.esc_feedback.specs.Outstanding.{outstanding_of, none_outstanding}
+use Rattle.esc_feedback.specs.Pending.{none_open}
 use Rattle.esc_fault.specs.Fault.{fault_of, after_hearing}
-use Rattle.esc_feedback.specs.Manager.{manager_of, noted, new_manager, closed_by_sample}
+use Rattle.esc_feedback.specs.Manager.{manager_of, new_manager, closed_by_sample}
 use Rattle.esc_feedback.specs.declared.config.EscManagerConfig.{EscManagerConfig}
 use Rattle.esc_lanes.specs.declared.request.EscActuatorRequest.{EscActuatorRequest}
+use Rattle.esc_lanes.specs.declared.request.EscTelemetryObservation.{EscTelemetryObservation}
+use Rattle.esc_fault.specs.declared.fault.Fault.{Fault}
+use Rattle.base.specs.Maybe.{only_if}
 use Rattle.esc_feedback.specs.declared.stats.EscManagerStats.{EscManagerStats}
-use Rattle.esc_feedback.specs.declared.turn.LastRequest.{LastRequest}
-use Rattle.esc_feedback.specs.declared.turn.LastRequest.TheVariants as last
 use Rattle.esc_feedback.specs.declared.turn.Turn.{Turn}
-use Rattle.esc_feedback.specs.declared.outstanding.EarlyObservation.{EarlyObservation}
-use Rattle.esc_feedback.specs.declared.outstanding.EarlyObservation.TheVariants as early
-use Rattle.esc_feedback.specs.declared.outstanding.PendingRequest.{PendingRequest}
-use Rattle.esc_feedback.specs.declared.outstanding.PendingRequest.TheVariants as pending
-use Rattle.esc_feedback.specs.declared.outstanding.Outstanding.{Outstanding}
+use Rattle.esc_feedback.specs.declared.pending.PendingRequest.{PendingRequest}
+use Rattle.esc_feedback.specs.declared.pending.PendingRequest.TheVariants as pending
 use Rattle.esc_feedback.specs.declared.manager.EscManager.{EscManager}
-use Rattle.base.specs.Maybe.{is}
 use Rattle.booking.specs.History.{Opening, Timed, Requests, Wire, Idle, Seen, wire_byte, cut_if, Past}
 use Rattle.booking.specs.Wire.{Frame, timed, wire, frame_at, parsed}
 use Rattle.booking.specs.Booking.{equal, booked, open_request, started_at, latest_frame}
 use Rattle.booking.specs.Faults.{faulted, quiet_since, retries, note}
 use Rattle.booking.specs.Turns.{turn, last_queued}
 use Rattle.booking.specs.Counts.{queued, started, ack_timeout, response_timeout, mismatched, unsolicited, recovered, frame_ended, wrong, renewed}
-use Rattle.booking.specs.Rule.{note_answer}
 use Rattle.booking.proofs.Framing.{Holds, holds-nothing, after-cut, byted}
 use Rattle.booking.proofs.Tallies.{wrapping, saturating}
 
-abbrev pub last_at : Option ℕ → LastRequest
-last_at none = last.None
-last_at (some t) = last.At t
-
 abbrev pub turn_at : Past → Turn
-turn_at h = record { output = (turn h).output; sequence = (turn h).sequence; last = last_at (last_queued h) }
+turn_at h = record { output = (turn h).output; sequence = (turn h).sequence; last_request_ms = last_queued h }
 
-abbrev pub early_of : EscActuatorRequest → Option Frame → EarlyObservation
-early_of q none = early.None
-early_of q (some f) = early.Some (booked q f).observation
+abbrev pub early_of : EscActuatorRequest → Option Frame → Option EscTelemetryObservation
+early_of q None = None
+early_of q (Some f) = Some (booked q f).observation
 
 abbrev pub pending_on : Timed → Option ℕ → Option Frame → PendingRequest
-pending_on q none f = pending.Queued q.request q.at (early_of q.request f)
-pending_on q (some t) f = pending.Started q.request t
+pending_on q None f = pending.Queued q.request q.at (early_of q.request f)
+pending_on q (Some t) f = pending.Started q.request t
 
-abbrev pub pending_from : Option Timed → (EscActuatorRequest → Option ℕ) → Option Frame → PendingRequest
-pending_from none s f = pending.None
-pending_from (some q) s f = pending_on q (s q.request) f
+abbrev pub pending_from : Option Timed → (EscActuatorRequest → Option ℕ) → Option Frame → Option PendingRequest
+pending_from None s f = None
+pending_from (Some q) s f = Some (pending_on q (s q.request) f)
 
-abbrev pub line_at : Past → Outstanding
-line_at h = outstanding_of (pending_from (open_request h) (started_at h) (latest_frame h))
+abbrev pub pending_at : Past → Option PendingRequest
+pending_at h = pending_from (open_request h) (started_at h) (latest_frame h)
+
+-- the quiet start is there while faulted
+abbrev pub fault_at : Bool → ℕ → ℕ → Fault
+fault_at f q r = fault_of (only_if f (Some q)) r
 
 abbrev pub wire_stats : Past → ParserStats
 wire_stats h =
@@ -90,9 +86,9 @@ manager_at o h p =
     o.config
     o.boot
     (turn_at h)
-    (line_at h)
-    (fault_of (faulted h) (quiet_since h) (retries h))
-    (noted (note_answer (note h)))
+    (pending_at h)
+    (fault_at (faulted h) (quiet_since h) (retries h))
+    (note h)
     p
     (stats_at h)
 
@@ -104,12 +100,12 @@ pub record ParserAt (h : Past) (p : StreamParser) : Type 0 where
 
 -- an event that opens nothing
 abbrev pub event : Requests → Wire → ℕ → Bool → Idle → Seen
-event r w t k i = record { opening = none; requests = r; wire = w; idle = i; now = t; taken = k }
+event r w t k i = record { opening = None; requests = r; wire = w; idle = i; now = t; taken = k }
 
 -- a 05 at the parser
-is-timed : (f : Option (List ℕ)) (t : ℕ) → is (timed f t) ≡ is f
-is-timed none t = refl
-is-timed (some f) t = refl
+is-timed : (f : Option (List ℕ)) (t : ℕ) → is_some (timed f t) ≡ is_some f
+is-timed None t = refl
+is-timed (Some f) t = refl
 
 module _ (h : Past) (p : StreamParser) (i : ParserAt h p) (b : ℕ) where
   pub given-at : (push_of p b).parsed ≡ parsed (frame_at (wire h) b)
@@ -127,7 +123,7 @@ module _ (h : Past) (p : StreamParser) (i : ParserAt h p) (b : ℕ) where
 
 -- what leaves the wire alone leaves the parser alone
 pub parser-same : (h : Past) (p : StreamParser) (r : Requests) (w : Bool) (t : ℕ) (k : Bool) (d : Idle)
-    → ParserAt h p → ParserAt (event r (record { byte = none; cut = false; refreshed = w }) t k d ∷ h) p
+    → ParserAt h p → ParserAt (event r (record { byte = None; cut = false; refreshed = w }) t k d ∷ h) p
 unfolding wire saturating
 parser-same h p r w t k d i = record { ten = i.ten; holds = i.holds; counts = i.counts }
 
@@ -146,20 +142,24 @@ unfolding turn last_queued open_request faulted quiet_since retries note wrappin
 manager-new o = refl
 
 -- small facts about the parts
-pub heard-is : (f : Bool) (q r t : ℕ) → after_hearing (fault_of f q r) t ≡ fault_of f (pick f (max q t) q) r
-unfolding after_hearing
+pub faulted-is : (f : Bool) (q : ℕ) → is_some (only_if f (Some q)) ≡ f
+faulted-is true q = refl
+faulted-is false q = refl
+
+pub heard-is : (f : Bool) (q r t : ℕ) → after_hearing (fault_at f q r) t ≡ fault_at f (pick f (max q t) q) r
 heard-is true q r t = refl
 heard-is false q r t = refl
 
-pub delivered-is : (c : EscManagerConfig) (b : ℕ) (t : Turn) (l : Outstanding) (f : Bool) (q r : ℕ) (n : Option ℕ) (p : StreamParser) (s : EscManagerStats)
-    → closed_by_sample (manager_of c b t l (fault_of f q r) (noted (note_answer n)) p s)
-    ≡ manager_of c b t none_outstanding (fault_of f q 0) (noted (note_answer (pick (eqb r 0) n (some r)))) p s
+pub delivered-is : (c : EscManagerConfig) (b : ℕ) (t : Turn) (l : Option PendingRequest) (f : Bool) (q r : ℕ) (n : Option ℕ)
+    (p : StreamParser) (s : EscManagerStats)
+    → closed_by_sample (manager_of c b t l (fault_at f q r) n p s)
+    ≡ manager_of c b t none_open (fault_at f q 0) (pick (eqb r 0) n (Some r)) p s
 unfolding closed_by_sample
 delivered-is c b t l f q r n p s = go (eqb r 0) refl
   where
     go : (z : Bool) → eqb r 0 ≡ z
-        → closed_by_sample (manager_of c b t l (fault_of f q r) (noted (note_answer n)) p s)
-        ≡ manager_of c b t none_outstanding (fault_of f q 0) (noted (note_answer (pick z n (some r)))) p s
+        → closed_by_sample (manager_of c b t l (fault_at f q r) n p s)
+        ≡ manager_of c b t none_open (fault_at f q 0) (pick z n (Some r)) p s
     go true e = rw (eqb-true r 0 e)
     go false e = rw e
 
@@ -180,17 +180,17 @@ same-is q p = rw (eqb-sym q.sequence p.sequence) (go (eqb p.sequence q.sequence)
 
 -- what is open
 pub data Open (h : Past) : Type 0 where
-  nothing : open_request h ≡ none → Open h
-  waiting : (q : Timed) → open_request h ≡ some q → started_at h q.request ≡ none → Open h
-  running : (q : Timed) (t : ℕ) → open_request h ≡ some q → started_at h q.request ≡ some t → Open h
+  nothing : open_request h ≡ None → Open h
+  waiting : (q : Timed) → open_request h ≡ Some q → started_at h q.request ≡ None → Open h
+  running : (q : Timed) (t : ℕ) → open_request h ≡ Some q → started_at h q.request ≡ Some t → Open h
 
 pub opened : (h : Past) → Open h
 opened h = go (open_request h) refl
   where
-    with-start : (q : Timed) → open_request h ≡ some q → (s : Option ℕ) → started_at h q.request ≡ s → Open h
-    with-start q e none k = waiting q e k
-    with-start q e (some t) k = running q t e k
+    with-start : (q : Timed) → open_request h ≡ Some q → (s : Option ℕ) → started_at h q.request ≡ s → Open h
+    with-start q e None k = waiting q e k
+    with-start q e (Some t) k = running q t e k
 
     go : (x : Option Timed) → open_request h ≡ x → Open h
-    go none e = nothing e
-    go (some q) e = with-start q e (started_at h q.request) refl
+    go None e = nothing e
+    go (Some q) e = with-start q e (started_at h q.request) refl

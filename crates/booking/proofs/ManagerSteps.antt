@@ -1,10 +1,10 @@
 -- Each call of the manager, at the state that belongs to a history: its answer is the rule's, and it leaves the state of the history with the call.
 use mathlib.Core.Path.{◌≡◌, refl, ◌∙◌, ap}
 use mathlib.Core.List.{List, ◌∷◌}
-use mathlib.Core.Option.{Option, none, some}
+use Rattle.std.specs.Prelude.{Option, None, Some, is_some}
 use mathlib.Core.Bool.{Bool, true, false, not, ◌&&◌}
-use Prim.Native.Nat.{ℕ}
-use lib.Dec.{eqb}
+use Prim.Native.Nat.{ℕ, ◌-◌, ◌*◌, ◌^◌, min}
+use lib.Dec.{eqb, leb}
 use borrow.Author.Tests.{eqb-true}
 use Rattle.base.specs.Choice.{pick}
 use Rattle.base.proofs.Both.{and_left, and_right}
@@ -12,12 +12,11 @@ use Rattle.blheli_telemetry.specs.Parser.{push_of, reset_of}
 use Rattle.blheli_telemetry.specs.declared.parser.StreamParser.{StreamParser}
 use Rattle.base.specs.Due.{due}
 use Rattle.esc_lanes.specs.Output.{lane_of, lane_after}
-use Rattle.esc_feedback.specs.Outstanding.{is_open}
+use Rattle.esc_feedback.specs.Pending.{is_open}
 use Rattle.esc_feedback.specs.Turn.{period_due}
 use Rattle.esc_lanes.specs.declared.output.Lane.{Lane}
 use Rattle.esc_lanes.specs.declared.output.Lane.TheVariants.{Output1, Output2, Output3, Output4}
-use Rattle.esc_feedback.specs.declared.answer.NextRequest.TheVariants as next
-use Rattle.esc_fault.specs.Fault.{quiet_window, may_recover}
+use Rattle.esc_fault.specs.Fault.{quiet_window, quiet_enough, may_recover}
 use Rattle.esc_feedback.specs.Manager.{take_back}
 use Rattle.esc_feedback.specs.Queueing.{request_exists, next_request, mark_queued}
 use Rattle.esc_feedback.specs.Ack.{ack_on, on_ack}
@@ -29,12 +28,9 @@ use Rattle.esc_lanes.specs.declared.request.EscActuatorAck.{EscActuatorAck}
 use Rattle.esc_lanes.specs.declared.request.EscTelemetryUpdate.{EscTelemetryUpdate}
 use Rattle.esc_feedback.specs.declared.answer.EscAckOutcome.{EscAckOutcome}
 use Rattle.esc_feedback.specs.declared.answer.EscAckOutcome.TheVariants as outcome
-use Rattle.esc_feedback.specs.declared.answer.WireUpdate.{WireUpdate}
-use Rattle.esc_feedback.specs.declared.answer.WireUpdate.TheVariants as update
 use Rattle.esc_feedback.specs.declared.manager.EscManager.{EscManager}
-use Rattle.base.specs.Maybe.{is, earliest, only_if}
+use Rattle.base.specs.Maybe.{earliest, only_if}
 use Rattle.booking.specs.History.{
-  said_timeout,
   Opening,
   Timed,
   Requests,
@@ -55,17 +51,16 @@ use Rattle.booking.specs.Booking.{equal, booked, booked_to, open_request, starte
 use Rattle.booking.specs.Faults.{faulted, quiet_since, retries, note, timeout_for, recovers}
 use Rattle.booking.specs.Turns.{following, turn, last_queued, due_since, existing, names}
 use Rattle.booking.specs.Counts.{renewed}
-use Rattle.booking.specs.Rule.{next_answer}
 use Rattle.booking.proofs.Lanes.{lane-eq}
 use Rattle.booking.proofs.Tallies.{wrapping, saturating}
 use Rattle.booking.proofs.ManagerState.{
-  last_at,
   pending_from,
   manager_at,
   ParserAt,
   event,
   given-at,
   parser-byte,
+  faulted-is,
   heard-is,
   delivered-is,
   same-is,
@@ -80,21 +75,17 @@ use Rattle.booking.proofs.ManagerState.{
 abbrev pub ack_seen : EscActuatorAck → Option EscActuatorRequest → Option Frame → Requests
 ack_seen k q f =
     record {
-      granted = none;
-      acknowledged = some (record { request = k.request; at = k.started_at_ms });
-      started = is q;
+      granted = None;
+      acknowledged = Some (record { request = k.request; at = k.started_at_ms });
+      started = is_some q;
       delivered = booked_to q f;
-      timeout = none;
+      timeout = None;
       recovered = false;
     }
 
-abbrev pub update_answer : Option EscTelemetryUpdate → WireUpdate
-update_answer none = update.None
-update_answer (some u) = update.Some u
-
-pub booked-none : (q : Option EscActuatorRequest) → booked_to q none ≡ none
-booked-none none = refl
-booked-none (some q) = refl
+pub booked-none : (q : Option EscActuatorRequest) → booked_to q None ≡ None
+booked-none None = refl
+booked-none (Some q) = refl
 
 pub equal-eq : (p q : EscActuatorRequest) → equal p q ≡ true → p ≡ q
 equal-eq p q e =
@@ -109,7 +100,7 @@ following-is Output2 = refl
 following-is Output3 = refl
 following-is Output4 = refl
 
-only-some : (b : Bool) (p q : EscActuatorRequest) → only_if b (some p) ≡ some q → p ≡ q
+only-some : (b : Bool) (p q : EscActuatorRequest) → only_if b (Some p) ≡ Some q → p ≡ q
 only-some true p q e = cc
 only-some false p q e = cc
 
@@ -123,15 +114,15 @@ module _ (o : Opening) (h : Past) (p : StreamParser) (i : ParserAt h p) where
       push_wire (manager_at o h p) b now
       ≡ record {
         manager = manager_at o (event (sample_seen (delivers b now)) (wire_byte b now) now false d ∷ h) (push_of p b).parser;
-        answer = update_answer (delivers b now);
+        answer = delivers b now;
       }
 
-  byte-none : (b now : ℕ) (d : Idle) → frame_at (wire h) b ≡ none → ByteOk b now d
+  byte-none : (b now : ℕ) (d : Idle) → frame_at (wire h) b ≡ None → ByteOk b now d
   unfolding push_wire received_on turn last_queued open_request started_at latest_frame faulted quiet_since retries note wrapping saturating renewed
   byte-none b now d e = rw (given-at h p i b, e, booked-none (started_request h), heard-is (faulted h) (quiet_since h) (retries h) now)
 
   -- the held frame is closed by a `refl` of its own: a wrong rule is then refused by the words that differ
-  byte-some : (b now : ℕ) (d : Idle) (f : List ℕ) → frame_at (wire h) b ≡ some f → Open h → ByteOk b now d
+  byte-some : (b now : ℕ) (d : Idle) (f : List ℕ) → frame_at (wire h) b ≡ Some f → Open h → ByteOk b now d
   unfolding push_wire received_on framed_on turn last_queued open_request started_at latest_frame started_request faulted quiet_since retries note wrapping
       saturating renewed
   byte-some b now d f e (nothing k) =
@@ -168,21 +159,21 @@ module _ (o : Opening) (h : Past) (p : StreamParser) (i : ParserAt h p) where
         heard-is (faulted h) (quiet_since h)
             (retries h) now,
       )
-      (ap (λ (m : EscManager). record { manager = m; answer = update.Some (booked q.request (record { bytes = f; at = now })) }) (delivered-is _ _
+      (ap (λ (m : EscManager). record { manager = m; answer = Some (booked q.request (record { bytes = f; at = now })) }) (delivered-is _ _
       _ _ _ _ _ _ _ _))
 
   pub byte-ok : (b now : ℕ) (d : Idle) → ByteOk b now d
   byte-ok b now d = go (frame_at (wire h) b) refl
     where
       go : (f : Option (List ℕ)) → frame_at (wire h) b ≡ f → ByteOk b now d
-      go none e = byte-none b now d e
-      go (some f) e = byte-some b now d f e (opened h)
+      go None e = byte-none b now d e
+      go (Some f) e = byte-some b now d f e (opened h)
 
   -- 03
   abbrev pub ack_outcome : Option EscActuatorRequest → Option Frame → EscAckOutcome
-  ack_outcome none f = outcome.Rejected
-  ack_outcome (some q) none = outcome.Accepted
-  ack_outcome (some q) (some f) = outcome.Sample (booked q f)
+  ack_outcome None f = outcome.Rejected
+  ack_outcome (Some q) None = outcome.Accepted
+  ack_outcome (Some q) (Some f) = outcome.Sample (booked q f)
 
   abbrev AckOk : EscActuatorAck → ℕ → Idle → Type 0
   AckOk k now d =
@@ -192,22 +183,22 @@ module _ (o : Opening) (h : Past) (p : StreamParser) (i : ParserAt h p) where
         answer = ack_outcome (newly_started h k.request) (latest_frame h);
       }
 
-  ack-waiting : (k : EscActuatorAck) (now : ℕ) (d : Idle) (q : Timed) → open_request h ≡ some q → started_at h q.request ≡ none
+  ack-waiting : (k : EscActuatorAck) (now : ℕ) (d : Idle) (q : Timed) → open_request h ≡ Some q → started_at h q.request ≡ None
       → (m : Bool) → equal q.request k.request ≡ m → (f : Option Frame) → latest_frame h ≡ f → AckOk k now d
   unfolding on_ack ack_on newly_started turn last_queued open_request started_at latest_frame faulted quiet_since retries note wrapping saturating renewed
-  ack-waiting k now d q e s true m none f =
+  ack-waiting k now d q e s true m None f =
       rw (e, s, same-is k.request q.request, m, f, heard-is (faulted h) (quiet_since h) (retries h) k.started_at_ms, m, s)
-  ack-waiting k now d q e s true m (some x) f =
+  ack-waiting k now d q e s true m (Some x) f =
       rw (e, s, same-is k.request q.request, m, f, heard-is (faulted h) (quiet_since h) (retries h) k.started_at_ms)
       (ap (λ (n : EscManager). record { manager = n; answer = outcome.Sample (booked q.request x) }) (delivered-is _ _ _ _ _ _ _ _ _ _))
-  ack-waiting k now d q e s false m none f =
+  ack-waiting k now d q e s false m None f =
       rw (e, s, same-is k.request q.request, m, f, heard-is (faulted h) (quiet_since h) (retries h) k.started_at_ms, m, s)
-  ack-waiting k now d q e s false m (some x) f =
+  ack-waiting k now d q e s false m (Some x) f =
       rw (e, s, same-is k.request q.request, m, f, heard-is (faulted h) (quiet_since h) (retries h) k.started_at_ms, m, s)
 
-  earliest-old : (x : Option ℕ) (t : ℕ) → earliest x (some t) ≡ some t
-  earliest-old none t = refl
-  earliest-old (some u) t = refl
+  earliest-old : (x : Option ℕ) (t : ℕ) → earliest x (Some t) ≡ Some t
+  earliest-old None t = refl
+  earliest-old (Some u) t = refl
 
   and-false : (b : Bool) → (b && false) ≡ false
   and-false true = refl
@@ -225,7 +216,7 @@ module _ (o : Opening) (h : Past) (p : StreamParser) (i : ParserAt h p) where
         heard-is (faulted h) (quiet_since h) (retries h) k.started_at_ms,
         s,
         earliest-old
-            (only_if (equal q.request k.request) (some k.started_at_ms)) t,
+            (only_if (equal q.request k.request) (Some k.started_at_ms)) t,
       )
 
   pub ack-ok : (k : EscActuatorAck) (now : ℕ) (d : Idle) → AckOk k now d
@@ -236,7 +227,7 @@ module _ (o : Opening) (h : Past) (p : StreamParser) (i : ParserAt h p) where
   PollOk now d =
       poll_timeout (manager_at o h p) now
       ≡ record {
-        manager = manager_at o (event (timeout_seen (said_timeout (timeout_for o h now)).timeout) no_wire now false d ∷ h) p;
+        manager = manager_at o (event (timeout_seen (timeout_for o h now)) no_wire now false d ∷ h) p;
         answer = timeout_for o h now;
       }
 
@@ -259,32 +250,32 @@ module _ (o : Opening) (h : Past) (p : StreamParser) (i : ParserAt h p) where
   poll-ok now d = poll-open now d (opened h)
 
   -- 01 and 02
-  open_is : Open h → is_open (pending_from (open_request h) (started_at h) (latest_frame h)) ≡ is (open_request h)
+  open_is : Open h → is_open (pending_from (open_request h) (started_at h) (latest_frame h)) ≡ is_some (open_request h)
   open_is (nothing e) = rw e
-  open_is (waiting q e s) = rw (e, s)
-  open_is (running q t e s) = rw (e, s)
+  open_is (waiting q e s) = rw e
+  open_is (running q t e s) = rw e
 
-  period-is : (l : Option ℕ) (now d : ℕ) → period_due (last_at l) now d ≡ due_since l now d
-  period-is none now d = refl
-  period-is (some t) now d = refl
+  period-is : (l : Option ℕ) (now d : ℕ) → period_due l now d ≡ due_since l now d
+  period-is None now d = refl
+  period-is (Some t) now d = refl
 
-  next-if : (b : Bool) (q : EscActuatorRequest) → pick b (next.Some q) next.None ≡ next_answer (only_if b (some q))
+  next-if : (b : Bool) (q : EscActuatorRequest) → pick b (Some q) None ≡ only_if b (Some q)
   next-if true q = refl
   next-if false q = refl
 
   abbrev ready : ℕ → Bool
   ready now =
       not (faulted h)
-      && (not (is (open_request h))
+      && (not (is_some (open_request h))
       && (due o.boot now o.config.boot_delay_ms && due_since (last_queued h) now o.config.request_period_ms))
 
-  pub next-ok : (now : ℕ) → next_request (manager_at o h p) now ≡ next_answer (existing o h now)
+  pub next-ok : (now : ℕ) → next_request (manager_at o h p) now ≡ existing o h now
   unfolding next_request request_exists existing
   next-ok now =
-      rw (open_is (opened h), period-is (last_queued h) now o.config.request_period_ms)
+      rw (faulted-is (faulted h) (quiet_since h), open_is (opened h), period-is (last_queued h) now o.config.request_period_ms)
       (next-if (ready now) (turn h))
 
-  existing-turn : (now : ℕ) (n : EscActuatorRequest) → existing o h now ≡ some n → turn h ≡ n
+  existing-turn : (now : ℕ) (n : EscActuatorRequest) → existing o h now ≡ Some n → turn h ≡ n
   unfolding existing
   existing-turn now n e = only-some (ready now) (turn h) n e
 
@@ -293,7 +284,7 @@ module _ (o : Opening) (h : Past) (p : StreamParser) (i : ParserAt h p) where
       mark_queued (manager_at o h p) q now
       ≡ record { manager = manager_at o (event (granted_if y q now) no_wire now false d ∷ h) p; answer = y }
 
-  mark-some : (q : EscActuatorRequest) (now : ℕ) (d : Idle) (n : EscActuatorRequest) → existing o h now ≡ some n
+  mark-some : (q : EscActuatorRequest) (now : ℕ) (d : Idle) (n : EscActuatorRequest) → existing o h now ≡ Some n
       → (z : Bool) → equal n q ≡ z → MarkOk q now d z
   unfolding mark_queued turn last_queued open_request started_at latest_frame faulted quiet_since retries note wrapping saturating renewed
   mark-some q now d n e true z =
@@ -306,23 +297,27 @@ module _ (o : Opening) (h : Past) (p : StreamParser) (i : ParserAt h p) where
   mark-ok q now d = go (existing o h now) refl
     where
       go : (x : Option EscActuatorRequest) → existing o h now ≡ x → MarkOk q now d (names x q)
-      go none e = rw (next-ok now, e)
-      go (some n) e = mark-some q now d n e (equal n q) refl
+      go None e = rw (next-ok now, e)
+      go (Some n) e = mark-some q now d n e (equal n q) refl
 
   -- 07
+  quiet-is : (f : Bool) (q window now : ℕ) (armed : Bool) → quiet_enough (only_if f (Some q)) window now armed ≡ (f && (not armed && leb window (now - q)))
+  quiet-is true q window now armed = refl
+  quiet-is false q window now armed = refl
+
   recover-by : (armed : Bool) (now : ℕ)
       → try_recover (manager_at o h p) now armed
       ≡ pick (recovers o h armed now)
       (record { manager = recovered_manager (manager_at o h p); answer = true })
       (record { manager = manager_at o h p; answer = false })
   unfolding try_recover may_recover quiet_window recovers
-  recover-by armed now = refl
+  recover-by armed now = rw (quiet-is (faulted h) (quiet_since h) (o.config.recovery_quiet_ms * 2 ^ min (retries h) 3) now armed)
 
   recovers-faulted : (armed : Bool) (now : ℕ) → recovers o h armed now ≡ true → faulted h ≡ true
   unfolding recovers
   recovers-faulted armed now z = and_left (faulted h) _ z
 
-  pub recover-ok : (calm : faulted h ≡ true → open_request h ≡ none) (armed : Bool) (now : ℕ) (d : Idle)
+  pub recover-ok : (calm : faulted h ≡ true → open_request h ≡ None) (armed : Bool) (now : ℕ) (d : Idle)
       → try_recover (manager_at o h p) now armed
       ≡ record {
         manager = manager_at o (event (recovered_if (recovers o h armed now)) (cut_if (recovers o h armed now)) now false d ∷ h) (pick (recovers o h

@@ -1,7 +1,8 @@
 -- A first Qualified is earned: the rule asks for streaks long enough and fresh, and a streak is the newest part of a lane's counted samples.
 use mathlib.Core.Path.{◌≡◌, refl, sym, ◌∙◌, ap}
-use mathlib.Core.List.{List, ◌∷◌}
-use mathlib.Core.Option.{Option, none, some, none-ne-some}
+use mathlib.Core.List.{List, [], ◌∷◌}
+use Rattle.std.specs.Prelude.{Option, None, Some}
+use Rattle.std.proofs.lemmas.Option.{none-some}
 use mathlib.Core.Bool.{Bool, true, false, ◌&&◌, false≢true}
 use Prim.Native.Nat.{ℕ, ◌≤◌, ◌<◌}
 use native.Mathlib.Omega.{arith}
@@ -21,7 +22,6 @@ use Rattle.esc_records.specs.Record.{read_record}
 use Rattle.esc_answers.specs.Answer.{answer_bytes}
 use Rattle.esc_records.specs.declared.record.Record.{Record}
 use Rattle.esc_answers.specs.declared.answer.Answer.{Answer}
-use Rattle.esc_answers.specs.declared.answer.IdleAnswer.TheVariants.{NoCheck, Status}
 use Rattle.booking.specs.History.{Call, Check, Seen, seen, said_by, Past, Since, since}
 use Rattle.booking.specs.IdleRule.{check, verdict, valid, past_grace, erpm, fresh, joined, streak_at, streak, tally, settled, judged_at}
 use Rattle.booking.specs.Rule.{answer_to, with_room, rule_for}
@@ -63,8 +63,8 @@ module _ (k : Check) (now : ℕ) where
       p : Lane → Bool
       p m = leb k.config.required_consecutive_samples (tally (g m))
 
-      go : (a d : Bool) → qualified (pick a Qualified (pick d (Failed (Timeout (tally (g Output1)) (tally (g Output2)) (tally (g Output3)) (tally (g
-          Output4)))) Pending)) ≡ true → a ≡ true
+      go : (a d : Bool) → qualified (pick a Qualified (pick d (Failed (Timeout (tally (g Output1) ∷ tally (g Output2) ∷ tally (g Output3) ∷ tally (g
+          Output4) ∷ []))) Pending)) ≡ true → a ≡ true
       go true d z = refl
       go false true z = absurd (false≢true z)
       go false false z = absurd (false≢true z)
@@ -83,8 +83,8 @@ module _ (k : Check) (now : ℕ) where
 
   enough : (x : Option EscTelemetryUpdate) (f : Lane → List EscTelemetryUpdate) → valid k.config ≡ true → qualified (judged_at k x now f) ≡ true
       → Enough k now (λ l. streak_at k x now l (f l))
-  enough none f v e = record { needed = needed-by v; looked = f; aged = λ l. refl; long = long-each (λ l. fresh k.config now (f l)) e }
-  enough (some u) f v e = go (past_grace k now) (ltb k.config.max_erpm_div100 (erpm u)) e
+  enough None f v e = record { needed = needed-by v; looked = f; aged = λ l. refl; long = long-each (λ l. fresh k.config now (f l)) e }
+  enough (Some u) f v e = go (past_grace k now) (ltb k.config.max_erpm_div100 (erpm u)) e
     where
       go : (d m : Bool)
           → qualified (pick d (pick m (Failed (Overspeed u.output (erpm u))) (settled k now (λ l. pick d (fresh k.config now (joined k.config
@@ -110,21 +110,21 @@ enough-said k x now f e = go (valid k.config) refl (ap qualified e)
     go true ok z = enough k now x f ok z
     go false ok z = absurd (false≢true z)
 
-same-status : (v w : EscIdleQualificationStatus) → some (Status v) ≡ some (Status w) → v ≡ w
+same-status : (v w : EscIdleQualificationStatus) → Some (Some v) ≡ Some (Some w) → v ≡ w
 same-status v w e = cc
 
-earned : (h : Past) (e : Seen) → Sound h → Shows h e → e.idle.status ≡ some (Status Qualified) → verdict h ≡ none → Earned h e
-earned h e i (checks k n s) q v = absurd (none-ne-some (Status Qualified) (sym s ∙ q))
-earned h e i (passes n s d) q v = absurd (none-ne-some (Status Qualified) (sym s ∙ q))
+earned : (h : Past) (e : Seen) → Sound h → Shows h e → e.idle.status ≡ Some (Some Qualified) → verdict h ≡ None → Earned h e
+earned h e i (checks k n s) q v = absurd (none-some (Some Qualified) (sym s ∙ q))
+earned h e i (passes n s d) q v = absurd (none-some (Some Qualified) (sym s ∙ q))
 earned h e i (asks n s) q v = go (check h) refl
   where
     x : Option EscTelemetryUpdate
     x = e.requests.delivered
 
     go : (m : Option Check) → check h ≡ m → Earned h e
-    go none c = let z : some NoCheck ≡ some (Status Qualified) = rw (unchecked h x e.now c) at (sym s ∙ q) in absurd (let y : ◌≡◌ {A = ℕ} 0 1 = cc
+    go None c = let z : Some None ≡ Some (Some Qualified) = rw (unchecked h x e.now c) at (sym s ∙ q) in absurd (let y : ◌≡◌ {A = ℕ} 0 1 = cc
         in omega arith)
-    go (some k) c =
+    go (Some k) c =
         let w : says k x e.now (streak h) ≡ Qualified = same-status _ _ (rw (judged-is h k x e.now c v) at (sym s ∙ q)) in
         let g = enough-said k x e.now (streak h) w in
         record {
@@ -144,7 +144,7 @@ room-kept room b a e = go (leb (length (answer_bytes b)) room) e
     go true k = cc
     go false k = let y : ◌≡◌ {A = ℕ} 0 1 = cc in absurd (omega arith)
 
-answer-is : (cs : List Call) (s : Since) (c : Call) (r : Record) (a : Answer) → since (run cs).history ≡ some s → read_record c.bytes ≡ accepted r
+answer-is : (cs : List Call) (s : Since) (c : Call) (r : Record) (a : Answer) → since (run cs).history ≡ Some s → read_record c.bytes ≡ accepted r
     → rule_for (run cs).history c ≡ accepted a → answer_to s.opening s.past r ≡ a
 unfolding rule_for
 answer-is cs s c r a h x e = room-kept c.room (answer_to s.opening s.past r) a (rw (h, x) at e)

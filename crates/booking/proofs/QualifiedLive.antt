@@ -1,7 +1,7 @@
 -- The idle check's six statuses, by the rule alone, on closed lists of records: 'qualified-only-if' is not empty.
 use mathlib.Core.Path.{◌≡◌, refl}
 use mathlib.Core.List.{List, [], ◌∷◌, ◌++◌, map}
-use mathlib.Core.Option.{Option, none, some}
+use Rattle.std.specs.Prelude.{Option, None, Some}
 use Prim.Native.Nat.{ℕ}
 use Rattle.base.specs.BigEndian.{number_at, bytes_of}
 use Rattle.blheli_telemetry.specs.Crc.{crc_bit, crc_bits, crc_byte, crc_from, crc_of}
@@ -15,8 +15,7 @@ use Rattle.esc_idle.specs.declared.idle_verdict.EscIdleQualificationStatus.TheVa
 use Rattle.esc_records.specs.Record.{record_of, read_record}
 use Rattle.esc_answers.specs.Answer.{request_bytes, sample_bytes, delivered_bytes, failure_bytes, idle_bytes, ack_bytes, wire_bytes, body_bytes, answer_bytes}
 use Rattle.esc_answers.specs.declared.answer.Answer.{Answer}
-use Rattle.esc_answers.specs.declared.answer.IdleAnswer.{IdleAnswer}
-use Rattle.esc_answers.specs.declared.answer.IdleAnswer.TheVariants.{NoCheck, Status}
+use Rattle.esc_idle.specs.declared.idle_verdict.EscIdleQualificationStatus.{EscIdleQualificationStatus}
 use Rattle.booking.specs.History.{History, said_by, Past, since}
 use Rattle.booking.specs.Wire.{wire, latest, frame_at}
 use Rattle.booking.specs.Booking.{open_request, started_at, latest_frame, newly_started, started_request}
@@ -39,16 +38,16 @@ asking t = 0x0b ∷ bytes_of 8 t
 abbrev reading : ℕ → ℕ → ℕ → ℕ → List (List ℕ)
 reading s l erpm t = queue s l t ∷ acknowledge s l t t ∷ frame t erpm
 
-abbrev said_in : Reply Answer → Option IdleAnswer
+abbrev said_in : Reply Answer → Option (Option EscIdleQualificationStatus)
 said_in (accepted a) = (said_by a).status
-said_in (refused n) = none
+said_in (refused n) = None
 
-abbrev newest_of : History → Option IdleAnswer
-newest_of [] = none
+abbrev newest_of : History → Option (Option EscIdleQualificationStatus)
+newest_of [] = None
 newest_of (e ∷ h) = said_in e.reply
 
 -- what the rule says to the last of these records
-abbrev last : List (List ℕ) → Option IdleAnswer
+abbrev last : List (List ℕ) → Option (Option EscIdleQualificationStatus)
 last records = newest_of (trace_of [] (map roomy records))
 
 -- every limit just met: two counted samples a lane where two are required, lane 2 at max and lane 3 at min, and the newest of
@@ -68,13 +67,13 @@ qualifying =
     ++ (reading 8 0 60 20
     ++ reading 9 1 60 220))))))))
 
-pub statuses : (last (open' ∷ asking 5 ∷ []) ≡ some NoCheck)
-    × (last (open' ∷ checking 30 1 ∷ reading 0 0 60 5) ≡ some (Status Pending))
-    × (last qualifying ≡ some (Status Qualified))
-    × (last (open' ∷ checking 0 1 ∷ asking 5 ∷ []) ≡ some (Status (Failed InvalidConfig)))
-    × (last (open' ∷ checking 30 1 ∷ reading 0 0 60 20 ++ reading 1 1 101 20) ≡ some (Status (Failed (Overspeed (record { 0 = Output2 }) 101))))
-    × (last (open' ∷ checking 30 1 ∷ reading 0 0 60 750 ++ (reading 1 1 60 850 ++ (reading 2 2 29 900 ++ (asking 1000 ∷ [])))) ≡ some (Status
-    (Failed (Timeout 0 1 0 0))))
+pub statuses : (last (open' ∷ asking 5 ∷ []) ≡ Some None)
+    × (last (open' ∷ checking 30 1 ∷ reading 0 0 60 5) ≡ Some (Some Pending))
+    × (last qualifying ≡ Some (Some Qualified))
+    × (last (open' ∷ checking 0 1 ∷ asking 5 ∷ []) ≡ Some (Some (Failed InvalidConfig)))
+    × (last (open' ∷ checking 30 1 ∷ reading 0 0 60 20 ++ reading 1 1 101 20) ≡ Some (Some (Failed (Overspeed (record { 0 = Output2 }) 101))))
+    × (last (open' ∷ checking 30 1 ∷ reading 0 0 60 750 ++ (reading 1 1 60 850 ++ (reading 2 2 29 900 ++ (asking 1000 ∷ [])))) ≡ Some (Some
+    (Failed (Timeout (0 ∷ 1 ∷ 0 ∷ 0 ∷ [])))))
 unfolding number_at bytes_of crc_bit crc_bits crc_byte crc_from crc_of telemetry_of payload_of due record_of read_record request_bytes sample_bytes
     delivered_bytes failure_bytes idle_bytes ack_bytes wire_bytes body_bytes answer_bytes since wire latest frame_at open_request started_at
     latest_frame newly_started started_request faulted turn last_queued existing check verdict valid streak judged rule_for trace_of
@@ -85,7 +84,7 @@ before [] = []
 before (e ∷ h) = h
 
 -- it is the first verdict; and what each lane's counted samples say, newest first
-pub first : (verdict (before (past_by qualifying)) ≡ none)
+pub first : (verdict (before (past_by qualifying)) ≡ None)
     × (map (λ (l : Lane). map erpm (counted (past_by qualifying) l)) (Output1 ∷ Output2 ∷ Output3 ∷ Output4 ∷ [])
     ≡ (60 ∷ 60 ∷ []) ∷ (60 ∷ 60 ∷ 29 ∷ []) ∷ (100 ∷ 100 ∷ []) ∷ (30 ∷ 30 ∷ []) ∷ [])
 unfolding number_at bytes_of crc_bit crc_bits crc_byte crc_from crc_of telemetry_of payload_of due record_of read_record request_bytes sample_bytes

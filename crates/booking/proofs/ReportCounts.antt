@@ -1,6 +1,6 @@
 -- Only a 0c is answered with a report, and the rule's report has these counts.
 use mathlib.Core.Path.{◌≡◌, refl, sym, ◌∙◌, ap, subst}
-use mathlib.Core.Option.{Option, none, some}
+use Rattle.std.specs.Prelude.{Option, None, Some}
 use mathlib.Core.Bool.{Bool, true, false, false≢true}
 use Rattle.base.specs.Reply.{Reply, accepted, refused}
 use Rattle.esc_records.specs.Record.{read_record}
@@ -57,22 +57,22 @@ by_answer o h (kind.StoredSample l) r e = other _ r refl e
 by_answer o h (kind.Figures l) r e = other _ r refl e
 
 by-reply : (s : Option Since) (k : Record) (r : UnitReport) → reply_to s k ≡ accepted (answer.Report r) → Reported (past_of s) r
-by-reply none (kind.Open c t) r e = other answer.Done r refl (accepted-is _ _ e)
-by-reply none (kind.NextRequest now) r e = absurd (refused-accepted 8 (answer.Report r) e)
-by-reply none (kind.MarkRequestQueued q now) r e = absurd (refused-accepted 8 (answer.Report r) e)
-by-reply none (kind.ActuatorAck a now) r e = absurd (refused-accepted 8 (answer.Report r) e)
-by-reply none (kind.PollTimeout now) r e = absurd (refused-accepted 8 (answer.Report r) e)
-by-reply none (kind.WireByte x now) r e = absurd (refused-accepted 8 (answer.Report r) e)
-by-reply none kind.WireDiscontinuity r e = absurd (refused-accepted 8 (answer.Report r) e)
-by-reply none (kind.TryRecover armed now) r e = absurd (refused-accepted 8 (answer.Report r) e)
-by-reply none kind.TakeBackAfterRetries r e = absurd (refused-accepted 8 (answer.Report r) e)
-by-reply none kind.RefreshWireStats r e = absurd (refused-accepted 8 (answer.Report r) e)
-by-reply none (kind.IdleCheck c t) r e = absurd (refused-accepted 8 (answer.Report r) e)
-by-reply none (kind.IdleStatus now) r e = absurd (refused-accepted 8 (answer.Report r) e)
-by-reply none kind.Report r e = absurd (refused-accepted 8 (answer.Report r) e)
-by-reply none (kind.StoredSample l) r e = absurd (refused-accepted 8 (answer.Report r) e)
-by-reply none (kind.Figures l) r e = absurd (refused-accepted 8 (answer.Report r) e)
-by-reply (some s) k r e = by_answer s.opening s.past k r (accepted-is _ _ e)
+by-reply None (kind.Open c t) r e = other answer.Done r refl (accepted-is _ _ e)
+by-reply None (kind.NextRequest now) r e = absurd (refused-accepted 8 (answer.Report r) e)
+by-reply None (kind.MarkRequestQueued q now) r e = absurd (refused-accepted 8 (answer.Report r) e)
+by-reply None (kind.ActuatorAck a now) r e = absurd (refused-accepted 8 (answer.Report r) e)
+by-reply None (kind.PollTimeout now) r e = absurd (refused-accepted 8 (answer.Report r) e)
+by-reply None (kind.WireByte x now) r e = absurd (refused-accepted 8 (answer.Report r) e)
+by-reply None kind.WireDiscontinuity r e = absurd (refused-accepted 8 (answer.Report r) e)
+by-reply None (kind.TryRecover armed now) r e = absurd (refused-accepted 8 (answer.Report r) e)
+by-reply None kind.TakeBackAfterRetries r e = absurd (refused-accepted 8 (answer.Report r) e)
+by-reply None kind.RefreshWireStats r e = absurd (refused-accepted 8 (answer.Report r) e)
+by-reply None (kind.IdleCheck c t) r e = absurd (refused-accepted 8 (answer.Report r) e)
+by-reply None (kind.IdleStatus now) r e = absurd (refused-accepted 8 (answer.Report r) e)
+by-reply None kind.Report r e = absurd (refused-accepted 8 (answer.Report r) e)
+by-reply None (kind.StoredSample l) r e = absurd (refused-accepted 8 (answer.Report r) e)
+by-reply None (kind.Figures l) r e = absurd (refused-accepted 8 (answer.Report r) e)
+by-reply (Some s) k r e = by_answer s.opening s.past k r (accepted-is _ _ e)
 
 pub report-counts : ReportCounts
 report-counts cs c r e = go (read_record c.bytes) refl

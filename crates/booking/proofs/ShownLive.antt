@@ -1,7 +1,7 @@
 -- A list on which 0d shows something: two lanes, an older sample replaced, a recovery that leaves none, and a sample after it.
 use mathlib.Core.Path.{◌≡◌, refl}
 use mathlib.Core.List.{List, [], ◌∷◌, ◌++◌}
-use mathlib.Core.Option.{Option, none, some}
+use Rattle.std.specs.Prelude.{Option, None, Some}
 use Prim.Native.Nat.{ℕ}
 use lib.ListN.{replicate}
 use Rattle.base.specs.BigEndian.{number_at, bytes_of}
@@ -57,18 +57,18 @@ abbrev later : List (List ℕ)
 later = answered 6 2 527 65
 
 abbrev reading_in : Option EscTelemetryUpdate → Option Reading
-reading_in none = none
-reading_in (some u) = some (reading u)
+reading_in None = None
+reading_in (Some u) = Some (reading u)
 
 abbrev newest : Lane → List (List ℕ) → Option Reading
 newest l records = reading_in (newest_delivered l (past_by records))
 
 -- the claim's words
-pub newest-live : (newest Output1 flight ≡ some (booked' 0 4 5 64))
-    × (newest Output2 flight ≡ some (booked' 1 1 2 61))
-    × (newest Output1 (flight ++ recovery) ≡ none)
-    × (newest Output2 (flight ++ (recovery ++ later)) ≡ none)
-    × (newest Output3 (flight ++ (recovery ++ later)) ≡ some (booked' 2 6 527 65))
+pub newest-live : (newest Output1 flight ≡ Some (booked' 0 4 5 64))
+    × (newest Output2 flight ≡ Some (booked' 1 1 2 61))
+    × (newest Output1 (flight ++ recovery) ≡ None)
+    × (newest Output2 (flight ++ (recovery ++ later)) ≡ None)
+    × (newest Output3 (flight ++ (recovery ++ later)) ≡ Some (booked' 2 6 527 65))
 unfolding number_at bytes_of crc_bit crc_bits crc_byte crc_from crc_of telemetry_of payload_of due record_of read_record request_bytes sample_bytes
     delivered_bytes failure_bytes idle_bytes next_bytes ack_bytes wire_bytes timeout_bytes body_bytes answer_bytes since wire latest frame_at
     open_request started_at latest_frame newly_started started_request faulted quiet_since retries timeout_for recovers note turn last_queued existing

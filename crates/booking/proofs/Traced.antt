@@ -1,7 +1,7 @@
 -- Over every list of calls, refused ones included, every reply is the rule's.
 use mathlib.Core.Path.{◌≡◌, refl, sym, ◌∙◌, ap, subst}
 use mathlib.Core.List.{List, [], ◌∷◌}
-use mathlib.Core.Option.{Option, none, some}
+use Rattle.std.specs.Prelude.{Option, None, Some}
 use mathlib.Core.Bool.{Bool, true, false}
 use Prim.Native.Nat.{ℕ}
 use lib.Dec.{leb}
@@ -25,8 +25,8 @@ use Rattle.booking.proofs.UnitSteps.{UnitAt, unit-new, step_ok}
 
 -- the unit fits what came since the latest accepted 00, if there was one
 abbrev pub Fits : Option Since → Unit → Type 0
-Fits none u = u.opened ≡ false
-Fits (some s) u = UnitAt s.opening s.past u
+Fits None u = u.opened ≡ false
+Fits (Some s) u = UnitAt s.opening s.past u
 
 -- after a reply: refused ones are passed over
 abbrev pub after : Record → Reply Answer → Option Since → Option Since
@@ -38,19 +38,19 @@ pub record Entered (s : Option Since) (r : Record) (k : Replied) : Type 0 where
   pub fits : Fits (after r k.reply s) k.unit
 
 -- an opened unit
-stepped-in : (o : Opening) (h : Past) (u : Unit) → UnitAt o h u → (r : Record) → opens r ≡ false → ((a : Answer) → (seen r a).opening ≡ none)
-    → Entered (some (record { opening = o; past = h })) r (enter u r)
+stepped-in : (o : Opening) (h : Past) (u : Unit) → UnitAt o h u → (r : Record) → opens r ≡ false → ((a : Answer) → (seen r a).opening ≡ None)
+    → Entered (Some (record { opening = o; past = h })) r (enter u r)
 unfolding enter
 stepped-in o h u i r f g =
-    let s : Option Since = some (record { opening = o; past = h }) in
+    let s : Option Since = Some (record { opening = o; past = h }) in
     let k = step_ok o h i.p i.b i.parser i.calm i.books r f in
     subst (λ (z : Unit). Entered s r (enter z r)) (sym i.state)
     (record { replies = ap accepted k.answers; fits = rw (g (step_of (manager_at o h i.p) i.b r).answer) k.unit })
 
-entered-open : (o : Opening) (h : Past) (u : Unit) → UnitAt o h u → (r : Record) → Entered (some (record { opening = o; past = h })) r (enter u r)
+entered-open : (o : Opening) (h : Past) (u : Unit) → UnitAt o h u → (r : Record) → Entered (Some (record { opening = o; past = h })) r (enter u r)
 unfolding enter step_of
 entered-open o h u i (kind.Open c t) =
-    subst (λ (z : Unit). Entered (some (record { opening = o; past = h })) (kind.Open c t) (enter z (kind.Open c t))) (sym i.state)
+    subst (λ (z : Unit). Entered (Some (record { opening = o; past = h })) (kind.Open c t) (enter z (kind.Open c t))) (sym i.state)
     (record { replies = refl; fits = unit-new (record { config = c; boot = t }) })
 entered-open o h u i (kind.NextRequest now) = stepped-in o h u i (kind.NextRequest now) refl (λ a. refl)
 entered-open o h u i (kind.MarkRequestQueued q now) = stepped-in o h u i (kind.MarkRequestQueued q now) refl (λ a. refl)
@@ -68,7 +68,7 @@ entered-open o h u i (kind.StoredSample l) = stepped-in o h u i (kind.StoredSamp
 entered-open o h u i (kind.Figures l) = stepped-in o h u i (kind.Figures l) refl (λ a. refl)
 
 -- a unit never opened
-entered-closed : (u : Unit) → u.opened ≡ false → (r : Record) → Entered none r (enter u r)
+entered-closed : (u : Unit) → u.opened ≡ false → (r : Record) → Entered None r (enter u r)
 unfolding enter step_of
 entered-closed u i (kind.Open c t) = rw i (record { replies = refl; fits = unit-new (record { config = c; boot = t }) })
 entered-closed u i (kind.NextRequest now) = rw i (record { replies = refl; fits = refl })
@@ -87,8 +87,8 @@ entered-closed u i (kind.StoredSample l) = rw i (record { replies = refl; fits =
 entered-closed u i (kind.Figures l) = rw i (record { replies = refl; fits = refl })
 
 entered : (s : Option Since) (u : Unit) → Fits s u → (r : Record) → Entered s r (enter u r)
-entered none u i r = entered-closed u i r
-entered (some s) u i r = entered-open s.opening s.past u i r
+entered None u i r = entered-closed u i r
+entered (Some s) u i r = entered-open s.opening s.past u i r
 
 -- with the room lent
 pub record Called (s : Option Since) (room : ℕ) (x : Reply Record) (k : Replied) : Type 0 where

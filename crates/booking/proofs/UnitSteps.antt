@@ -1,7 +1,8 @@
 -- Each record, at the unit that belongs to a history: the answer is the rule's, and the unit left is that of the history with the record.
 use mathlib.Core.Path.{◌≡◌, refl, sym, ◌∙◌, ap}
 use mathlib.Core.List.{[], ◌∷◌}
-use mathlib.Core.Option.{Option, none, some, none-ne-some}
+use Rattle.std.specs.Prelude.{Option, None, Some, is_some}
+use Rattle.std.proofs.lemmas.Option.{none-some}
 use mathlib.Core.Bool.{Bool, true, false, ◌||◌, true≢false, false≢true}
 use Prim.Native.Nat.{ℕ}
 use Rattle.base.specs.Choice.{pick}
@@ -12,7 +13,6 @@ use Rattle.esc_lanes.specs.declared.request.EscActuatorRequest.{EscActuatorReque
 use Rattle.esc_lanes.specs.declared.request.EscActuatorAck.{EscActuatorAck}
 use Rattle.esc_lanes.specs.declared.request.EscTelemetryUpdate.{EscTelemetryUpdate}
 use Rattle.esc_feedback.specs.declared.answer.EscManagerTimeout.{EscManagerTimeout}
-use Rattle.esc_feedback.specs.declared.answer.EscManagerTimeout.TheVariants as timeout
 use Rattle.esc_feedback.specs.declared.manager.EscManager.{EscManager}
 use Rattle.esc_books.specs.Books.{no_books, booked_in, idle_status}
 use Rattle.esc_kinds.specs.Step.{stepped, acked_on, wire_stepped, recovered_on, report_of, step_of}
@@ -20,17 +20,15 @@ use Rattle.esc_unit.specs.Unit.{unit_of}
 use Rattle.esc_records.specs.Admission.{opens}
 use Rattle.esc_records.specs.declared.record.Record.{Record}
 use Rattle.esc_records.specs.declared.record.Record.TheVariants as kind
-use Rattle.esc_answers.specs.declared.answer.IdleAnswer.{IdleAnswer}
+use Rattle.esc_idle.specs.declared.idle_verdict.EscIdleQualificationStatus.{EscIdleQualificationStatus}
 use Rattle.esc_answers.specs.declared.answer.AckAnswer.TheVariants as ack
-use Rattle.esc_answers.specs.declared.answer.WireAnswer.TheVariants as wire_answer
 use Rattle.esc_answers.specs.declared.answer.Answer.{Answer}
 use Rattle.esc_answers.specs.declared.answer.Answer.TheVariants as answer
 use Rattle.esc_books.specs.declared.books.Books.{Books}
 use Rattle.esc_unit.specs.declared.unit.Unit.{Unit}
 use Rattle.esc_kinds.specs.declared.kinds.Stepped.{Stepped}
-use Rattle.base.specs.Maybe.{is, or_else}
+use Rattle.base.specs.Maybe.{or_else}
 use Rattle.booking.specs.History.{
-  said_timeout,
   Opening,
   Timed,
   Wire,
@@ -50,16 +48,15 @@ use Rattle.booking.specs.History.{
 }
 use Rattle.booking.specs.Wire.{Frame}
 use Rattle.booking.specs.Booking.{booked, booked_to, open_request, latest_frame, newly_started}
-use Rattle.booking.specs.Faults.{faulted, timeout_for, recovers}
+use Rattle.booking.specs.Faults.{faulted, quiet_since, timeout_for, recovers}
 use Rattle.booking.specs.Turns.{existing, names}
 use Rattle.booking.specs.IdleRule.{judged}
 use Rattle.booking.specs.Counts.{queued, started, ack_timeout, response_timeout, mismatched, unsolicited, recovered, frame_ended, wrong, renewed, report_for}
 use Rattle.booking.specs.Rule.{ack_answer, wire_answer_of, answer_to}
 use Rattle.booking.proofs.Tallies.{wrapping-is, saturating-is}
-use Rattle.booking.proofs.ManagerState.{manager_at, ParserAt, event, parser-byte, parser-same, parser-cut, parser-new, manager-new}
+use Rattle.booking.proofs.ManagerState.{manager_at, faulted-is, ParserAt, event, parser-byte, parser-same, parser-cut, parser-new, manager-new}
 use Rattle.booking.proofs.ManagerSteps.{
   ack_seen,
-  update_answer,
   delivers,
   ack_outcome,
   byte-ok,
@@ -77,7 +74,7 @@ use Rattle.booking.proofs.BooksState.{BooksAt, books-new, took, asked-status, sa
 
 -- while faulted no request is open
 abbrev pub Calm : Past → Type 0
-Calm h = faulted h ≡ true → open_request h ≡ none
+Calm h = faulted h ≡ true → open_request h ≡ None
 
 -- the unit that belongs to an opening and what came after it
 pub record UnitAt (o : Opening) (h : Past) (u : Unit) : Type 0 where
@@ -92,22 +89,22 @@ pub record StepOk (o : Opening) (h : Past) (r : Record) (a : Answer) (s : Steppe
   pub answers : s.answer ≡ a
   pub unit : UnitAt o (seen r s.answer ∷ h) (unit_of s.manager s.books)
 
-calm-by : (d t r f : Bool) (x : Option Timed) → pick t true (pick r false f) ≡ true → (f ≡ true → x ≡ none) → pick (d || t) none (or_else none x) ≡ none
+calm-by : (d t r f : Bool) (x : Option Timed) → pick t true (pick r false f) ≡ true → (f ≡ true → x ≡ None) → pick (d || t) None (or_else None x) ≡ None
 calm-by true t r f x k g = refl
 calm-by false true r f x k g = refl
 calm-by false false true f x k g = absurd (false≢true k)
 calm-by false false false f x k g = g k
 
-calm-keeps : (h : Past) (e : Seen) → e.requests.granted ≡ none → Calm h → Calm (e ∷ h)
+calm-keeps : (h : Past) (e : Seen) → e.requests.granted ≡ None → Calm h → Calm (e ∷ h)
 unfolding faulted open_request
-calm-keeps h e g calm k = rw g (calm-by (is e.requests.delivered) (is e.requests.timeout) e.requests.recovered (faulted h) (open_request h) k calm)
+calm-keeps h e g calm k = rw g (calm-by (is_some e.requests.delivered) (is_some e.requests.timeout) e.requests.recovered (faulted h) (open_request h) k calm)
 
-existing-unfaulted : (o : Opening) (h : Past) (now : ℕ) (q : EscActuatorRequest) → existing o h now ≡ some q → faulted h ≡ false
+existing-unfaulted : (o : Opening) (h : Past) (now : ℕ) (q : EscActuatorRequest) → existing o h now ≡ Some q → faulted h ≡ false
 unfolding existing
 existing-unfaulted o h now q e = go (faulted h) refl
   where
     go : (f : Bool) → faulted h ≡ f → f ≡ false
-    go true f = absurd (none-ne-some q (rw f at e))
+    go true f = absurd (none-some q (rw f at e))
     go false f = refl
 
 pub unit-new : (o : Opening) → UnitAt o [] (unit_of (new_manager o.config o.boot) no_books)
@@ -127,7 +124,7 @@ module _ (o : Opening) (h : Past) (p : StreamParser) (b : Books) (parser : Parse
   m = manager_at o h p
 
   -- a step that leaves these
-  leaves : (e : Seen) (n : EscManager) (p' : StreamParser) (b' : Books) → e.requests.granted ≡ none
+  leaves : (e : Seen) (n : EscManager) (p' : StreamParser) (b' : Books) → e.requests.granted ≡ None
       → n ≡ manager_at o (e ∷ h) p' → ParserAt (e ∷ h) p' → BooksAt (e ∷ h) b' → UnitAt o (e ∷ h) (unit_of n b')
   leaves e n p' b' g s i k =
       record { p = p'; b = b'; parser = i; calm = calm-keeps h e g calm; books = k; state = ap (λ (z : EscManager). unit_of z b') s }
@@ -148,6 +145,7 @@ module _ (o : Opening) (h : Past) (p : StreamParser) (b : Books) (parser : Parse
   unfolding report_for
   report-is =
       rw (
+        faulted-is (faulted h) (quiet_since h),
         wrapping-is queued h,
         wrapping-is started h,
         wrapping-is ack_timeout h,
@@ -163,8 +161,8 @@ module _ (o : Opening) (h : Past) (p : StreamParser) (b : Books) (parser : Parse
   mark-calm : (q : EscActuatorRequest) (now : ℕ) (x : Option EscActuatorRequest) → existing o h now ≡ x
       → Calm (event (granted_if (names x q) q now) no_wire now false no_idle ∷ h)
   unfolding faulted open_request
-  mark-calm q now none e k = calm k
-  mark-calm q now (some n) e k = absurd (true≢false (sym k ∙ existing-unfaulted o h now n e))
+  mark-calm q now None e k = calm k
+  mark-calm q now (Some n) e k = absurd (true≢false (sym k ∙ existing-unfaulted o h now n e))
 
   marked : (q : EscActuatorRequest) (now : ℕ) → StepOk o h (kind.MarkRequestQueued q now) (answer.Decided (names (existing o h now) q)) (step_of m b
       (kind.MarkRequestQueued q now))
@@ -185,36 +183,36 @@ module _ (o : Opening) (h : Past) (p : StreamParser) (b : Books) (parser : Parse
       })
 
   -- 03
-  abbrev says : ℕ → EscTelemetryUpdate → IdleAnswer
+  abbrev says : ℕ → EscTelemetryUpdate → Option EscIdleQualificationStatus
   says now u = (booked_in b u now).status
 
-  abbrev idle_after : Option EscTelemetryUpdate → (EscTelemetryUpdate → IdleAnswer) → Idle
-  idle_after none f = no_idle
-  idle_after (some u) f = record { check = none; status = some (f u) }
+  abbrev idle_after : Option EscTelemetryUpdate → (EscTelemetryUpdate → Option EscIdleQualificationStatus) → Idle
+  idle_after None f = no_idle
+  idle_after (Some u) f = record { check = None; status = Some (f u) }
 
   abbrev acknowledging : EscActuatorAck → ℕ → Option EscActuatorRequest → Option Frame → Seen
   acknowledging k now q f = event (ack_seen k q f) no_wire now false (idle_after (booked_to q f) (says now))
 
   acked-on : (k : EscActuatorAck) (now : ℕ) (q : Option EscActuatorRequest) (f : Option Frame)
       → StepOk o h (kind.ActuatorAck k now)
-      (answer.Ack (ack_answer q f (λ u. judged h (some u) now)))
+      (answer.Ack (ack_answer q f (λ u. judged h (Some u) now)))
       (acked_on (manager_at o (acknowledging k now q f ∷ h) p) b now (ack_outcome o h p parser q f))
-  acked-on k now none f =
+  acked-on k now None f =
       record {
         answers = refl;
-        unit = leaves (acknowledging k now none f) _ p b refl refl (parser-same h p _ false now false _ parser) (same h b books _ refl refl refl refl);
+        unit = leaves (acknowledging k now None f) _ p b refl refl (parser-same h p _ false now false _ parser) (same h b books _ refl refl refl refl);
       }
-  acked-on k now (some q) none =
+  acked-on k now (Some q) None =
       record {
         answers = refl;
-        unit = leaves (acknowledging k now (some q) none) _ p b refl refl (parser-same h p _ false now false _ parser) (same h b books _ refl refl refl refl);
+        unit = leaves (acknowledging k now (Some q) None) _ p b refl refl (parser-same h p _ false now false _ parser) (same h b books _ refl refl refl refl);
       }
-  acked-on k now (some q) (some f) =
+  acked-on k now (Some q) (Some f) =
       let u = booked q f in
-      let kept = took h b books u now (acknowledging k now (some q) (some f)) refl refl refl refl refl in
+      let kept = took h b books u now (acknowledging k now (Some q) (Some f)) refl refl refl refl refl in
       record {
-        answers = ap (λ (s : IdleAnswer). answer.Ack (ack.Sample (record { update = u; status = s }))) kept.status;
-        unit = leaves (acknowledging k now (some q) (some f)) _ p (booked_in b u now).books refl refl (parser-same h p _ false now false _ parser)
+        answers = ap (λ (s : Option EscIdleQualificationStatus). answer.Ack (ack.Sample (record { update = u; status = s }))) kept.status;
+        unit = leaves (acknowledging k now (Some q) (Some f)) _ p (booked_in b u now).books refl refl (parser-same h p _ false now false _ parser)
             kept.books;
       }
 
@@ -225,14 +223,10 @@ module _ (o : Opening) (h : Past) (p : StreamParser) (b : Books) (parser : Parse
       (acked-on k now (newly_started h k.request) (latest_frame h))
 
   -- 04
-  polled-on : (now : ℕ) (t : EscManagerTimeout)
+  polled-on : (now : ℕ) (t : Option EscManagerTimeout)
       → StepOk o h (kind.PollTimeout now) (answer.Timeout t)
-      (stepped (manager_at o (event (timeout_seen (said_timeout t).timeout) no_wire now false no_idle ∷ h) p) b (answer.Timeout t))
-  polled-on now timeout.None =
-      record { answers = refl; unit = leaves _ _ p b refl refl (parser-same h p _ false now false _ parser) (same h b books _ refl refl refl refl) }
-  polled-on now (timeout.ActuatorAck q) =
-      record { answers = refl; unit = leaves _ _ p b refl refl (parser-same h p _ false now false _ parser) (same h b books _ refl refl refl refl) }
-  polled-on now (timeout.TelemetryResponse q) =
+      (stepped (manager_at o (event (timeout_seen t) no_wire now false no_idle ∷ h) p) b (answer.Timeout t))
+  polled-on now t =
       record { answers = refl; unit = leaves _ _ p b refl refl (parser-same h p _ false now false _ parser) (same h b books _ refl refl refl refl) }
 
   polled : (now : ℕ) → StepOk o h (kind.PollTimeout now) (answer.Timeout (timeout_for o h now)) (step_of m b (kind.PollTimeout now))
@@ -245,19 +239,19 @@ module _ (o : Opening) (h : Past) (p : StreamParser) (b : Books) (parser : Parse
 
   received-on : (x now : ℕ) (u : Option EscTelemetryUpdate)
       → StepOk o h (kind.WireByte x now)
-      (answer.Wire (wire_answer_of u (λ v. judged h (some v) now)))
-      (wire_stepped (manager_at o (wire_event x now u ∷ h) (push_of p x).parser) b now (update_answer u))
-  received-on x now none =
+      (answer.Wire (wire_answer_of u (λ v. judged h (Some v) now)))
+      (wire_stepped (manager_at o (wire_event x now u ∷ h) (push_of p x).parser) b now u)
+  received-on x now None =
       record {
         answers = refl;
-        unit = leaves (wire_event x now none) _ (push_of p x).parser b refl refl (parser-byte h p parser x _ now false _)
+        unit = leaves (wire_event x now None) _ (push_of p x).parser b refl refl (parser-byte h p parser x _ now false _)
             (same h b books _ refl refl refl refl);
       }
-  received-on x now (some u) =
-      let kept = took h b books u now (wire_event x now (some u)) refl refl refl refl refl in
+  received-on x now (Some u) =
+      let kept = took h b books u now (wire_event x now (Some u)) refl refl refl refl refl in
       record {
-        answers = ap (λ (s : IdleAnswer). answer.Wire (wire_answer.Sample (record { update = u; status = s }))) kept.status;
-        unit = leaves (wire_event x now (some u)) _ (push_of p x).parser (booked_in b u now).books refl refl (parser-byte h p parser x _ now false _)
+        answers = ap (λ (s : Option EscIdleQualificationStatus). answer.Wire (Some (record { update = u; status = s }))) kept.status;
+        unit = leaves (wire_event x now (Some u)) _ (push_of p x).parser (booked_in b u now).books refl refl (parser-byte h p parser x _ now false _)
             kept.books;
       }
 
@@ -304,7 +298,7 @@ module _ (o : Opening) (h : Past) (p : StreamParser) (b : Books) (parser : Parse
   step_ok kind.RefreshWireStats f = quietly kind.RefreshWireStats _ p _ false (parser-same h p _ true 0 false _ parser) (refresh-ok o h p parser _)
       answer.Done refl _ refl
   step_ok (kind.IdleCheck c t) f =
-      let d : Idle = record { check = some (record { config = c; start = t }); status = none } in
+      let d : Idle = record { check = Some (record { config = c; start = t }); status = None } in
       record {
         answers = refl;
         unit = leaves _ m p _ refl (same_ok o h p parser t d) (parser-same h p _ false t false d parser) (checked h b books _ (record {
@@ -313,7 +307,7 @@ module _ (o : Opening) (h : Past) (p : StreamParser) (b : Books) (parser : Parse
         }) refl refl refl);
       }
   step_ok (kind.IdleStatus now) f =
-      let d : Idle = record { check = none; status = some (idle_status b now).status } in
+      let d : Idle = record { check = None; status = Some (idle_status b now).status } in
       let kept = asked-status h b books now (event no_requests no_wire now false d) refl refl refl refl refl in
       record {
         answers = ap answer.Idle kept.status;

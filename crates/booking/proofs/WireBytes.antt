@@ -1,7 +1,7 @@
 -- Records made of bytes bring only bytes to the wire, and a frame on such a wire is ten bytes, of which the tenth is the check byte of the nine.
 use mathlib.Core.Path.{◌≡◌, refl, subst}
 use mathlib.Core.List.{List, [], ◌∷◌, ◌++◌}
-use mathlib.Core.Option.{Option, none, some}
+use Rattle.std.specs.Prelude.{Option, None, Some, is_some}
 use mathlib.Core.Bool.{Bool, true, false}
 use Prim.Native.Nat.{ℕ, zero, suc, ◌<◌}
 use native.Mathlib.Omega.{arith}
@@ -18,7 +18,7 @@ use Rattle.esc_records.specs.declared.record.Record.{Record}
 use Rattle.esc_records.specs.declared.record.Record.TheVariants as kind
 use Rattle.esc_answers.specs.declared.answer.Answer.{Answer}
 use Rattle.esc_unit.specs.declared.unit.Unit.{Unit as TheUnit}
-use Rattle.base.specs.Maybe.{is, or_else}
+use Rattle.base.specs.Maybe.{or_else}
 use Rattle.booking.specs.History.{Call, History, Opening, Byte, Seen, seen, Past, Since, then, since_event, since}
 use Rattle.booking.specs.Wire.{OnWire, byte, cut, on_wire, wire, checked, one_more, latest, frame_at, Frame, timed, frame_in}
 use Rattle.booking.specs.Booking.{latest_frame}
@@ -41,8 +41,8 @@ bytes-snoc (x ∷ s) b h l (suc k) = bytes-snoc s b (λ j. h (suc j)) l k
 
 -- what may be missing, and is such where it is there
 abbrev pub Each : {A : Type 0} → (A → Type 0) → Option A → Type 0
-Each P none = Unit {0}
-Each P (some x) = P x
+Each P None = Unit {0}
+Each P (Some x) = P x
 
 -- the byte of a 05; 0 for the other kinds
 unfoldable byte_of : Record → ℕ
@@ -116,9 +116,9 @@ Heard [] = Unit {0}
 Heard (e ∷ h) = Each Below e.wire.byte × Heard h
 
 heard-then : (o : Option Opening) (e : Seen) (s : Option Since) → Each Below e.wire.byte → Heard (past_of s) → Heard (past_of (then o e s))
-heard-then (some o) e s b i = tt
-heard-then none e none b i = tt
-heard-then none e (some s) b i = (b, i)
+heard-then (Some o) e s b i = tt
+heard-then None e None b i = tt
+heard-then None e (Some s) b i = (b, i)
 
 heard-event : (x : Reply Record) → InReply x → (y : Reply Answer) (s : Option Since) → Heard (past_of s) → Heard (past_of (since_event x y s))
 heard-event (refused n) b y s i = i
@@ -154,9 +154,9 @@ OnlyBytes (cut ∷ w) = OnlyBytes w
 OnlyBytes (byte b ∷ w) = (b < 256) × OnlyBytes w
 
 on-wire : (b : Option Byte) (c : Bool) (w : List OnWire) → Each Below b → OnlyBytes w → OnlyBytes (on_wire b c w)
-on-wire none true w i j = j
-on-wire none false w i j = j
-on-wire (some b) c w i j = (i, j)
+on-wire None true w i j = j
+on-wire None false w i j = j
+on-wire (Some b) c w i j = (i, j)
 
 pub wire-bytes : (h : Past) → Heard h → OnlyBytes (wire h)
 unfolding wire
@@ -164,9 +164,9 @@ wire-bytes [] i = tt
 wire-bytes (e ∷ h) i = on-wire e.wire.byte e.wire.cut (wire h) i.0 (wire-bytes h i.1)
 
 one_more-sized : (n : ℕ) (f xs : Option (List ℕ)) (b : ℕ) → b < 256 → Each (Sized n) xs → Each (Sized (suc n)) (one_more f xs b)
-one_more-sized n (some f) xs b l i = tt
-one_more-sized n none none b l i = tt
-one_more-sized n none (some xs) b l i = (simp length-append (omega (arith, i.0)), bytes-snoc xs b i.1 l)
+one_more-sized n (Some f) xs b l i = tt
+one_more-sized n None None b l i = tt
+one_more-sized n None (Some xs) b l i = (simp length-append (omega (arith, i.0)), bytes-snoc xs b i.1 l)
 
 latest-sized : (w : List OnWire) → OnlyBytes w → (n : ℕ) → Each (Sized n) (latest w n)
 unfolding latest
@@ -178,10 +178,10 @@ latest-sized (byte b ∷ w) i zero = (refl, λ k. omega arith)
 latest-sized (byte b ∷ w) i (suc n) = one_more-sized n (checked b (latest w 9)) (latest w n) b i.0 (latest-sized w i.1 n)
 
 frame-checked : (xs : Option (List ℕ)) (b : ℕ) → b < 256 → Each (Sized 9) xs → Each Good (checked b xs)
-frame-checked none b l i = tt
-frame-checked (some xs) b l i = go (eqb (crc_of xs) b) refl
+frame-checked None b l i = tt
+frame-checked (Some xs) b l i = go (eqb (crc_of xs) b) refl
   where
-    go : (z : Bool) → eqb (crc_of xs) b ≡ z → Each Good (pick z (some (xs ++ b ∷ [])) none)
+    go : (z : Bool) → eqb (crc_of xs) b ≡ z → Each Good (pick z (Some (xs ++ b ∷ [])) None)
     go false z = tt
     go true z =
         record {
@@ -198,20 +198,20 @@ abbrev pub GoodFrame : Frame → Type 0
 GoodFrame f = Good f.bytes
 
 pub timed-good : (x : Option (List ℕ)) (t : ℕ) → Each Good x → Each GoodFrame (timed x t)
-timed-good none t i = tt
-timed-good (some f) t i = i
+timed-good None t i = tt
+timed-good (Some f) t i = i
 
 frame-in : (h : Past) → Heard h → (b : Option Byte) → Each Below b → Each GoodFrame (frame_in (wire h) b)
-frame-in h i none j = tt
-frame-in h i (some b) j = timed-good (frame_at (wire h) b.value) b.at (frame-good (wire h) (wire-bytes h i) b.value j)
+frame-in h i None j = tt
+frame-in h i (Some b) j = timed-good (frame_at (wire h) b.value) b.at (frame-good (wire h) (wire-bytes h i) b.value j)
 
-newer : (g : Bool) (x y : Option Frame) → Each GoodFrame x → Each GoodFrame y → Each GoodFrame (pick g none (or_else x y))
+newer : (g : Bool) (x y : Option Frame) → Each GoodFrame x → Each GoodFrame y → Each GoodFrame (pick g None (or_else x y))
 newer true x y i j = tt
-newer false none y i j = j
-newer false (some f) y i j = i
+newer false None y i j = j
+newer false (Some f) y i j = i
 
 pub latest-frame-good : (h : Past) → Heard h → Each GoodFrame (latest_frame h)
 unfolding latest_frame
 latest-frame-good [] i = tt
 latest-frame-good (e ∷ h) i =
-    newer (is e.requests.granted) (frame_in (wire h) e.wire.byte) (latest_frame h) (frame-in h i.1 e.wire.byte i.0) (latest-frame-good h i.1)
+    newer (is_some e.requests.granted) (frame_in (wire h) e.wire.byte) (latest_frame h) (frame-in h i.1 e.wire.byte i.0) (latest-frame-good h i.1)

@@ -6,7 +6,7 @@
 -- To read it: (x : A) → B is "for every x of A, B"; a ≡ b is "a equals b"; x ∷ xs is a list that begins with x, [] an empty one; f x is f
 -- at x; s.past is the part `past` of s; a value that may be missing is none or some x. Histories have the newest first.
 use Rattle.std.specs.Prelude.{ℕ, ◌+◌, ◌%◌, ◌^◌, ◌≡◌, List, [], ◌∷◌, ◌++◌}
-use Rattle.std.proofs.Math.Option.{Option, none, some}
+use Rattle.std.specs.Prelude.{Option, None, Some, is_some}
 use Rattle.base.specs.Reply.{Reply, accepted, refused}
 use Rattle.blheli_telemetry.specs.Parser.{push_of}
 use Rattle.esc_lanes.specs.declared.request.EscTelemetryUpdate.{EscTelemetryUpdate}
@@ -18,7 +18,6 @@ use Rattle.esc_answers.specs.declared.answer.UnitReport.{UnitReport}
 use Rattle.esc_answers.specs.declared.answer.Answer.{Answer}
 use Rattle.esc_answers.specs.declared.answer.Answer.TheVariants as answer
 use Rattle.esc_unit.specs.declared.unit.Unit.{Unit}
-use Rattle.base.specs.Maybe.{is}
 use Rattle.booking.specs.History.{Past, Since, since, seen, Call}
 use Rattle.booking.specs.Wire.{OnWire, cut, wire, frame_at, timed, parsed}
 use Rattle.booking.specs.Booking.{booked_to, open_request, latest_frame, newly_started, started_request}
@@ -28,8 +27,8 @@ use Rattle.booking.specs.Run.{run}
 
 -- what was accepted since the latest accepted 00
 abbrev pub past_of : Option Since → Past
-past_of none = []
-past_of (some s) = s.past
+past_of None = []
+past_of (Some s) = s.past
 
 abbrev pub past_after : List Call → Past
 past_after cs = past_of (since (run cs).history)
@@ -47,21 +46,21 @@ Traced = (cs : List Call) → (run cs).history ≡ trace_of [] cs
 -- such frame is given with its own time. Either way the sample holds the open request's L and S, the T of the frame-end 05 and what its
 -- bytes say. No other record delivers
 abbrev pub delivery_for : Past → Record → Option EscTelemetryUpdate
-delivery_for h (kind.Open c t) = none
-delivery_for h (kind.NextRequest now) = none
-delivery_for h (kind.MarkRequestQueued q now) = none
+delivery_for h (kind.Open c t) = None
+delivery_for h (kind.NextRequest now) = None
+delivery_for h (kind.MarkRequestQueued q now) = None
 delivery_for h (kind.ActuatorAck k now) = booked_to (newly_started h k.request) (latest_frame h)
-delivery_for h (kind.PollTimeout now) = none
+delivery_for h (kind.PollTimeout now) = None
 delivery_for h (kind.WireByte b now) = booked_to (started_request h) (timed (frame_at (wire h) b) now)
-delivery_for h kind.WireDiscontinuity = none
-delivery_for h (kind.TryRecover armed now) = none
-delivery_for h kind.TakeBackAfterRetries = none
-delivery_for h kind.RefreshWireStats = none
-delivery_for h (kind.IdleCheck c t) = none
-delivery_for h (kind.IdleStatus now) = none
-delivery_for h kind.Report = none
-delivery_for h (kind.StoredSample l) = none
-delivery_for h (kind.Figures l) = none
+delivery_for h kind.WireDiscontinuity = None
+delivery_for h (kind.TryRecover armed now) = None
+delivery_for h kind.TakeBackAfterRetries = None
+delivery_for h kind.RefreshWireStats = None
+delivery_for h (kind.IdleCheck c t) = None
+delivery_for h (kind.IdleStatus now) = None
+delivery_for h kind.Report = None
+delivery_for h (kind.StoredSample l) = None
+delivery_for h (kind.Figures l) = None
 
 -- deliveries exactly by the booking rule
 abbrev pub DeliveredExactly : Type 0
@@ -73,7 +72,7 @@ DeliveredExactly =
 
 -- queued = delivered + timeouts + open
 abbrev pub Balanced : Past → Type 0
-Balanced h = count queued h ≡ count delivered h + (count ack_timeout h + (count response_timeout h + one (is (open_request h))))
+Balanced h = count queued h ≡ count delivered h + (count ack_timeout h + (count response_timeout h + one (is_some (open_request h))))
 
 abbrev pub Conserved : Type 0
 Conserved = (cs : List Call) → Balanced (past_after cs)
@@ -82,15 +81,15 @@ Conserved = (cs : List Call) → Balanced (past_after cs)
 abbrev pub FrameEnds : Type 0
 FrameEnds =
     (cs : List Call) (s : Since) (b : ℕ)
-    → since (run cs).history ≡ some s
+    → since (run cs).history ≡ Some s
     → (push_of (run cs).unit.manager.parser b).parsed ≡ parsed (frame_at (wire s.past) b)
 
 -- two lists that hold the same bytes and cuts, in the same order, after some cut of each are framed alike there
 abbrev pub FramedAlike : Type 0
 FramedAlike =
     (cs ds : List Call) (s t : Since) (same before before' : List OnWire) (b : ℕ)
-    → since (run cs).history ≡ some s
-    → since (run ds).history ≡ some t
+    → since (run cs).history ≡ Some s
+    → since (run ds).history ≡ Some t
     → wire s.past ≡ same ++ cut ∷ before
     → wire t.past ≡ same ++ cut ∷ before'
     → (push_of (run cs).unit.manager.parser b).parsed ≡ (push_of (run ds).unit.manager.parser b).parsed

@@ -1,11 +1,10 @@
 -- The counts of the report (document 01): of the answers since the opening.
 use Rattle.std.specs.Prelude.{ℕ, ◌+◌, ◌-◌, ◌%◌, ◌^◌, min, Bool, true, false, not, ◌&&◌, ◌||◌, [], ◌∷◌, eqb}
-use Rattle.std.proofs.Math.Option.{Option, none, some}
+use Rattle.std.specs.Prelude.{Option, None, Some, is_some}
 use Rattle.base.specs.Choice.{pick}
 use Rattle.esc_feedback.specs.declared.answer.EscManagerTimeout.{EscManagerTimeout}
-use Rattle.esc_feedback.specs.declared.answer.EscManagerTimeout.TheVariants.{None, ActuatorAck, TelemetryResponse}
+use Rattle.esc_feedback.specs.declared.answer.EscManagerTimeout.TheVariants.{ActuatorAck, TelemetryResponse}
 use Rattle.esc_answers.specs.declared.answer.UnitReport.{UnitReport}
-use Rattle.base.specs.Maybe.{is}
 use Rattle.booking.specs.History.{Seen, Past}
 use Rattle.booking.specs.Wire.{wire, frame_in, wrong_in}
 use Rattle.booking.specs.Booking.{open_request}
@@ -24,20 +23,18 @@ count t [] = 0
 count t (e ∷ h) = one (t h e) + count t h
 
 abbrev is_ack : Option EscManagerTimeout → Bool
-is_ack none = false
-is_ack (some None) = false
-is_ack (some (ActuatorAck q)) = true
-is_ack (some (TelemetryResponse q)) = false
+is_ack None = false
+is_ack (Some (ActuatorAck q)) = true
+is_ack (Some (TelemetryResponse q)) = false
 
 abbrev is_response : Option EscManagerTimeout → Bool
-is_response none = false
-is_response (some None) = false
-is_response (some (ActuatorAck q)) = false
-is_response (some (TelemetryResponse q)) = true
+is_response None = false
+is_response (Some (ActuatorAck q)) = false
+is_response (Some (TelemetryResponse q)) = true
 
 -- the 02s answered yes
 abbrev pub queued : SeenTest
-queued h e = is e.requests.granted
+queued h e = is_some e.requests.granted
 
 -- the 03s accepted or answered with a sample
 abbrev pub started : SeenTest
@@ -45,7 +42,7 @@ started h e = e.requests.started
 
 -- the 03s rejected
 abbrev pub mismatched : SeenTest
-mismatched h e = is e.requests.acknowledged && not e.requests.started
+mismatched h e = is_some e.requests.acknowledged && not e.requests.started
 
 -- the 04s answered with a timeout
 abbrev pub ack_timeout : SeenTest
@@ -56,7 +53,7 @@ response_timeout h e = is_response e.requests.timeout
 
 -- the 03s and 05s answered with a sample
 abbrev pub delivered : SeenTest
-delivered h e = is e.requests.delivered
+delivered h e = is_some e.requests.delivered
 
 -- the 07s answered yes
 abbrev pub recovered : SeenTest
@@ -64,14 +61,14 @@ recovered h e = e.requests.recovered
 
 -- the parser's samples, and its ten bytes with a wrong check byte
 abbrev pub frame_ended : SeenTest
-frame_ended h e = is (frame_in (wire h) e.wire.byte)
+frame_ended h e = is_some (frame_in (wire h) e.wire.byte)
 
 abbrev pub wrong : SeenTest
 wrong h e = wrong_in (wire h) e.wire.byte
 
 -- a frame with nothing open is unsolicited
 abbrev pub unsolicited : SeenTest
-unsolicited h e = frame_ended h e && not (is (open_request h))
+unsolicited h e = frame_ended h e && not (is_some (open_request h))
 
 -- the manager's copy of the parser's counts is renewed only when the parser gives a sample and by 09: what came up to then
 unfoldable pub renewed : Past → Past

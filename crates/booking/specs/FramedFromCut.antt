@@ -1,16 +1,15 @@
 -- Framing along the rest of a list (document 01, 'Frame'): what the unit's parser gives at each 05 after a cut.
 use Rattle.std.specs.Prelude.{◌≡◌, Bool, true, false, ◌||◌, List, [], ◌∷◌}
-use Rattle.std.proofs.Math.Option.{Option, none, some}
+use Rattle.std.specs.Prelude.{Option, None, Some, is_some}
 use Rattle.base.specs.Reply.{Reply, accepted, refused}
 use Rattle.blheli_telemetry.specs.Parser.{push_of}
-use Rattle.blheli_telemetry.specs.declared.parser.Parsed.{Parsed}
+use Rattle.blheli_telemetry.specs.declared.frame.EscTelemetry.{EscTelemetry}
 use Rattle.blheli_telemetry.specs.declared.parser.StreamParser.{StreamParser}
 use Rattle.esc_records.specs.Record.{read_record}
 use Rattle.esc_unit.specs.Unit.{call_of}
 use Rattle.esc_records.specs.declared.record.Record.{Record}
 use Rattle.esc_answers.specs.declared.answer.Answer.{Answer}
 use Rattle.esc_unit.specs.declared.unit.Unit.{Unit}
-use Rattle.base.specs.Maybe.{is}
 use Rattle.booking.specs.History.{Call, Byte, Seen, seen}
 use Rattle.booking.specs.Wire.{OnWire, byte, cut, on_wire, wire}
 use Rattle.booking.specs.Run.{run}
@@ -40,19 +39,19 @@ rest before after = passed (run before).unit after
 -- a 00 is among them
 unfoldable pub reopened : List Passed → Bool
 reopened [] = false
-reopened (e ∷ later) = is e.shows.opening || reopened later
+reopened (e ∷ later) = is_some e.shows.opening || reopened later
 
 -- their bytes and cuts: the 05s, and the 06s and 07s answered yes
 unfoldable pub heard : List Passed → List OnWire
 heard [] = []
 heard (e ∷ later) = on_wire e.shows.wire.byte e.shows.wire.cut (heard later)
 
-abbrev pub given_at : StreamParser → Option Byte → List Parsed → List Parsed
-given_at p none later = later
-given_at p (some b) later = (push_of p b.value).parsed ∷ later
+abbrev pub given_at : StreamParser → Option Byte → List (Option EscTelemetry) → List (Option EscTelemetry)
+given_at p None later = later
+given_at p (Some b) later = (push_of p b.value).parsed ∷ later
 
 -- what the parser gives at each of their 05s, a sample or nothing: the first entry belongs to the first 05, and so on
-unfoldable pub given : List Passed → List Parsed
+unfoldable pub given : List Passed → List (Option EscTelemetry)
 given [] = []
 given (e ∷ later) = given_at e.parser e.shows.wire.byte (given later)
 

@@ -2,7 +2,7 @@
 -- the samples that were delivered, and not the streaks by which the rule answers.
 use Rattle.std.specs.Prelude.{ℕ, ◌≤◌, ◌≡◌, Bool, false, not, ◌&&◌, length, take}
 use mathlib.Core.List.{List, [], ◌∷◌, Memᴰ}
-use Rattle.std.proofs.Math.Option.{Option, none, some}
+use Rattle.std.specs.Prelude.{Option, None, Some, is_some}
 use Rattle.base.specs.Choice.{pick}
 use Rattle.base.specs.Reply.{accepted}
 use Rattle.esc_lanes.specs.declared.output.Lane.{Lane}
@@ -13,8 +13,7 @@ use Rattle.esc_records.specs.Record.{read_record}
 use Rattle.esc_unit.specs.Unit.{call_of}
 use Rattle.esc_records.specs.declared.record.Record.{Record}
 use Rattle.esc_answers.specs.declared.answer.Answer.{Answer}
-use Rattle.esc_answers.specs.declared.answer.IdleAnswer.TheVariants.{Status}
-use Rattle.base.specs.Maybe.{is, only_if}
+use Rattle.base.specs.Maybe.{only_if}
 use Rattle.booking.specs.History.{Call, Check, Seen, seen, said_by, Past, Since, since}
 use Rattle.booking.specs.IdleRule.{check, verdict, erpm, expired, past_grace}
 use Rattle.booking.specs.Samples.{added}
@@ -22,18 +21,18 @@ use Rattle.booking.specs.Run.{run}
 
 -- at a now without Due(start, now, grace) a sample is ignored (not counted)
 abbrev pub grace_over : Option Check → ℕ → Bool
-grace_over none now = false
-grace_over (some k) now = past_grace k now
+grace_over None now = false
+grace_over (Some k) now = past_grace k now
 
 -- every other sample passed before a verdict is a counted one, in or out of limits; a verdict is any status 02 to 05 answered
 -- since the latest 0a
 abbrev pub counts : Past → ℕ → Bool
-counts h now = not (is (verdict h)) && grace_over (check h) now
+counts h now = not (is_some (verdict h)) && grace_over (check h) now
 
 -- a lane's counted samples, newest first; counting starts at the latest 0a
 unfoldable pub counted : Past → Lane → List EscTelemetryUpdate
 counted [] l = []
-counted (e ∷ h) l = pick (is e.idle.check) [] (added (only_if (counts h e.now) e.requests.delivered) l (counted h l))
+counted (e ∷ h) l = pick (is_some e.idle.check) [] (added (only_if (counts h e.now) e.requests.delivered) l (counted h l))
 
 -- within limits is neither below min nor above max
 pub record Within (c : EscIdleQualificationConfig) (u : EscTelemetryUpdate) : Type 0 where
@@ -54,16 +53,16 @@ pub record Justified (c : EscIdleQualificationConfig) (now : ℕ) (us : List Esc
 -- judged at the now of the record that first says Qualified
 pub record Earned (h : Past) (e : Seen) : Type 0 where
   pub latest_check : Check
-  pub latest : check h ≡ some latest_check
+  pub latest : check h ≡ Some latest_check
   pub lanes : (l : Lane) → Justified latest_check.config e.now (counted (e ∷ h) l)
 
 -- after any list of calls, an accepted call whose answer says Qualified, the first verdict since the latest 0a, has earned it
 unfoldable pub QualifiedOnlyIf : Type 0
 QualifiedOnlyIf =
     (cs : List Call) (s : Since) (c : Call) (r : Record) (a : Answer)
-    → since (run cs).history ≡ some s
+    → since (run cs).history ≡ Some s
     → read_record c.bytes ≡ accepted r
     → (call_of (run cs).unit c.bytes c.room).reply ≡ accepted a
-    → (said_by a).status ≡ some (Status Qualified)
-    → verdict s.past ≡ none
+    → (said_by a).status ≡ Some (Some Qualified)
+    → verdict s.past ≡ None
     → Earned s.past (seen r a)

@@ -1,6 +1,6 @@
 -- Stored samples and figures (document 01): of the samples delivered since the opening.
 use Rattle.std.specs.Prelude.{ℕ, ◌-◌, ◌^◌, min, max, not, List, [], ◌∷◌, eqb, length}
-use Rattle.std.proofs.Math.Option.{Option, none, some}
+use Rattle.std.specs.Prelude.{Option, None, Some}
 use Rattle.base.specs.Choice.{pick}
 use Rattle.esc_lanes.specs.Output.{lane_of, lane_number}
 use Rattle.esc_lanes.specs.declared.output.Lane.{Lane}
@@ -10,17 +10,17 @@ use Rattle.base.specs.Maybe.{only_if}
 use Rattle.booking.specs.History.{Past}
 
 abbrev newest : Option EscTelemetryUpdate → Lane → Option EscTelemetryUpdate → Option EscTelemetryUpdate
-newest none l old = old
-newest (some u) l old = pick (eqb (lane_of u.output) (lane_number l)) (some u) old
+newest None l old = old
+newest (Some u) l old = pick (eqb (lane_of u.output) (lane_number l)) (Some u) old
 
 -- a lane's newest delivered sample; recovery drops stored samples
 unfoldable pub stored : Past → Lane → Option EscTelemetryUpdate
-stored [] l = none
+stored [] l = None
 stored (e ∷ h) l = only_if (not e.requests.recovered) (newest e.requests.delivered l (stored h l))
 
 abbrev pub added : Option EscTelemetryUpdate → Lane → List EscTelemetryUpdate → List EscTelemetryUpdate
-added none l us = us
-added (some u) l us = pick (eqb (lane_of u.output) (lane_number l)) (u ∷ us) us
+added None l us = us
+added (Some u) l us = pick (eqb (lane_of u.output) (lane_number l)) (u ∷ us) us
 
 -- a lane's delivered samples, newest first; figures are kept over recovery
 unfoldable pub delivered_on : Past → Lane → List EscTelemetryUpdate

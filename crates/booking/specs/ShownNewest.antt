@@ -1,7 +1,7 @@
 -- What 0d shows of a lane, over every list of calls (document 01, 'Records' and 'Manager'). The claim reads the samples that were
 -- delivered and the recoveries, and no store.
 use Rattle.std.specs.Prelude.{◌≡◌, List, [], ◌∷◌}
-use Rattle.std.proofs.Math.Option.{Option, none, some}
+use Rattle.std.specs.Prelude.{Option, None, Some}
 use Rattle.base.specs.Choice.{pick}
 use Rattle.base.specs.Reply.{accepted}
 use Rattle.esc_lanes.specs.declared.output.Lane.{Lane}
@@ -13,7 +13,6 @@ use Rattle.esc_answers.specs.declared.answer.Answer.{Answer}
 use Rattle.esc_answers.specs.declared.answer.Answer.TheVariants as answer
 use Rattle.booking.specs.History.{Call, Past}
 use Rattle.booking.specs.Samples.{delivered_on}
-use Rattle.booking.specs.Rule.{stored_answer_of}
 use Rattle.booking.specs.Claims.{past_after, reply_after}
 
 -- what was accepted after the latest recovery; all of it where there was none
@@ -22,8 +21,8 @@ since_recovery [] = []
 since_recovery (e ∷ h) = pick e.requests.recovered [] (e ∷ since_recovery h)
 
 abbrev pub newest_of : List EscTelemetryUpdate → Option EscTelemetryUpdate
-newest_of [] = none
-newest_of (u ∷ us) = some u
+newest_of [] = None
+newest_of (u ∷ us) = Some u
 
 -- the newest sample delivered to a lane since the opening and the latest recovery; none where there was none
 abbrev pub newest_delivered : Lane → Past → Option EscTelemetryUpdate
@@ -36,4 +35,4 @@ ShownNewest =
     (cs : List Call) (c : Call) (o : EscOutput) (a : Answer)
     → read_record c.bytes ≡ accepted (kind.StoredSample o)
     → reply_after cs c ≡ accepted a
-    → a ≡ answer.Stored (stored_answer_of (newest_delivered o.0 (past_after cs)))
+    → a ≡ answer.Stored (newest_delivered o.0 (past_after cs))

@@ -1,12 +1,10 @@
 -- Frame ends, from the bytes and cuts of the wire alone (document 01, 'Frame').
 use Rattle.std.specs.Prelude.{ℕ, zero, suc, Bool, true, false, not, ◌&&◌, List, [], ◌∷◌, ◌++◌, eqb}
-use Rattle.std.proofs.Math.Option.{Option, none, some}
+use Rattle.std.specs.Prelude.{Option, None, Some, is_some}
 use Rattle.base.specs.Choice.{pick}
+use Rattle.blheli_telemetry.specs.declared.frame.EscTelemetry.{EscTelemetry}
 use Rattle.blheli_telemetry.specs.Crc.{crc_of}
 use Rattle.blheli_telemetry.specs.Frame.{telemetry_of}
-use Rattle.blheli_telemetry.specs.declared.parser.Parsed.{Parsed}
-use Rattle.blheli_telemetry.specs.declared.parser.Parsed.TheVariants.{Sample, Nothing}
-use Rattle.base.specs.Maybe.{is}
 use Rattle.booking.specs.History.{Byte, Past}
 
 pub data OnWire : Type 0 where
@@ -14,9 +12,9 @@ pub data OnWire : Type 0 where
   cut : OnWire
 
 abbrev pub on_wire : Option Byte → Bool → List OnWire → List OnWire
-on_wire none true w = cut ∷ w
-on_wire none false w = w
-on_wire (some b) c w = byte b.value ∷ w
+on_wire None true w = cut ∷ w
+on_wire None false w = w
+on_wire (Some b) c w = byte b.value ∷ w
 
 -- the bytes and cuts, newest first
 unfoldable pub wire : Past → List OnWire
@@ -25,21 +23,21 @@ wire (e ∷ h) = on_wire e.wire.byte e.wire.cut (wire h)
 
 -- the ten bytes of a frame, where the tenth is the CRC of the nine
 abbrev pub checked : ℕ → Option (List ℕ) → Option (List ℕ)
-checked b none = none
-checked b (some nine) = pick (eqb (crc_of nine) b) (some (nine ++ b ∷ [])) none
+checked b None = None
+checked b (Some nine) = pick (eqb (crc_of nine) b) (Some (nine ++ b ∷ [])) None
 
 abbrev pub one_more : Option (List ℕ) → Option (List ℕ) → ℕ → Option (List ℕ)
-one_more (some frame) bytes b = none
-one_more none none b = none
-one_more none (some bytes) b = some (bytes ++ b ∷ [])
+one_more (Some frame) bytes b = None
+one_more None None b = None
+one_more None (Some bytes) b = Some (bytes ++ b ∷ [])
 
 -- the latest n bytes, oldest first, if no cut is among them and none of them is a frame end
 unfoldable pub latest : List OnWire → ℕ → Option (List ℕ)
-latest [] zero = some []
-latest [] (suc n) = none
-latest (cut ∷ w) zero = some []
-latest (cut ∷ w) (suc n) = none
-latest (byte b ∷ w) zero = some []
+latest [] zero = Some []
+latest [] (suc n) = None
+latest (cut ∷ w) zero = Some []
+latest (cut ∷ w) (suc n) = None
+latest (byte b ∷ w) zero = Some []
 latest (byte b ∷ w) (suc n) = one_more (checked b (latest w 9)) (latest w n) b
 
 -- a byte is a frame end when it and the nine before it have no cut between first and tenth, it is the CRC of the nine,
@@ -53,19 +51,19 @@ pub record Frame : Type 0 where
   pub at : ℕ
 
 abbrev pub timed : Option (List ℕ) → ℕ → Option Frame
-timed none t = none
-timed (some f) t = some (record { bytes = f; at = t })
+timed None t = None
+timed (Some f) t = Some (record { bytes = f; at = t })
 
 abbrev pub frame_in : List OnWire → Option Byte → Option Frame
-frame_in w none = none
-frame_in w (some b) = timed (frame_at w b.value) b.at
+frame_in w None = None
+frame_in w (Some b) = timed (frame_at w b.value) b.at
 
 -- a tenth byte that is not the CRC of the nine
 abbrev pub wrong_in : List OnWire → Option Byte → Bool
-wrong_in w none = false
-wrong_in w (some b) = is (latest w 9) && not (is (frame_at w b.value))
+wrong_in w None = false
+wrong_in w (Some b) = is_some (latest w 9) && not (is_some (frame_at w b.value))
 
 -- what the parser gives at a byte: the frame's telemetry at a frame end
-abbrev pub parsed : Option (List ℕ) → Parsed
-parsed none = Nothing
-parsed (some f) = Sample (telemetry_of f)
+abbrev pub parsed : Option (List ℕ) → Option EscTelemetry
+parsed None = None
+parsed (Some f) = Some (telemetry_of f)

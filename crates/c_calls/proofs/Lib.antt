@@ -1,8 +1,3 @@
--- Read in this order: stores into a buffer; the frame; the stream: whether its buffers hold it, and the run over it; a place in a
--- capture; the board map.
-pub mod StoreLaws
-pub mod ReadLaws
-pub mod FitsLaws
+-- Read in this order: the run of a parser over a stream; a place in a capture.
 pub mod Running
 pub mod PlaceLaws
-pub mod BoardMapLaws

@@ -1,15 +1,12 @@
 -- The board map from its bytes, with a lane's or a motor's number, both ways.
 use Rattle.std.specs.Prelude.{ℕ, min, List}
 use Rattle.base.specs.Reply.{Reply, accepted, refused}
-use Rattle.esc_lanes.specs.Output.{lane_of}
+use Rattle.esc_lanes.specs.Output.{lane_of, read_lane}
 use Rattle.esc_lanes.specs.declared.output.EscOutput.{EscOutput}
 use Rattle.airframe.specs.Motor.{motor_number, read_motor}
-use Rattle.airframe.specs.Lane.{read_lane}
 use Rattle.airframe.specs.BoardMap.{motor_on, output_with, read_map}
 use Rattle.airframe.specs.declared.motor.Motor.{Motor}
 use Rattle.airframe.specs.declared.board_map.BoardMap.{BoardMap}
-use Rattle.c_calls.specs.declared.board_map.Told.{Told}
-use Rattle.c_calls.specs.declared.board_map.Told.TheVariants.{Number, Refused}
 
 -- two readings together: the lowest applicable number is given
 abbrev pub together : {A B C : Type 0} → (A → B → C) → Reply A → Reply B → Reply C
@@ -33,8 +30,3 @@ lane_with m k = lane_of (output_with m k)
 -- or 5 for the map's length, 6 for the motor, 12 for the map
 abbrev pub lane_of_motor : List ℕ → ℕ → Reply ℕ
 lane_of_motor map motor = together lane_with (read_map map) (read_motor motor)
-
--- document 01's number and values for each answer
-abbrev pub told : Told → Reply ℕ
-told (Number n) = accepted n
-told (Refused number) = refused number

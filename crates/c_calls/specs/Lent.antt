@@ -1,8 +1,7 @@
--- The one number that a call is lent for its result.
-use Rattle.std.specs.Prelude.{ℕ}
+-- What a call is lent for its result.
 use Rattle.base.specs.Reply.{Reply, accepted, refused}
 
 -- what it is afterwards: the result, or as found where the call is refused
-abbrev pub lent_after : Reply ℕ → ℕ → ℕ
-lent_after (accepted n) found = n
+abbrev pub lent_after : {A : Type 0} → Reply A → A → A
+lent_after (accepted a) found = a
 lent_after (refused number) found = found

@@ -1,4 +1,4 @@
--- Read in this order: a lent number; a frame's fields, then the parser over a stream, which stores the same fields;
+-- Read in this order: what is lent for a result; a frame's fields, then the parser over a stream, which stores the same fields;
 -- the capture search; the board map.
 pub mod Lent
 pub mod Frame

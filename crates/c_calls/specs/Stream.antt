@@ -1,30 +1,29 @@
 -- What a stream brings out of a parser, in lent buffers: a mark and five fields for each byte, and the counts at its end.
-use Rattle.std.specs.Prelude.{ℕ, ◌+◌, ◌*◌, ◌/◌, Bool, false, List, [], ◌∷◌, leb, length, set}
+use Rattle.std.specs.Prelude.{ℕ, ◌+◌, ◌*◌, ◌/◌, Bool, ◌&&◌, List, [], ◌∷◌, Option, Some, None, nat_le, length, set}
 use Rattle.base.specs.Choice.{pick}
 use Rattle.base.specs.BigEndian.{overwrite}
 use Rattle.blheli_telemetry.specs.Parser.{new_parser, push_of}
 use Rattle.blheli_telemetry.specs.Stream.{parsed_by}
-use Rattle.blheli_telemetry.specs.declared.parser.Parsed.{Parsed}
-use Rattle.blheli_telemetry.specs.declared.parser.Parsed.TheVariants.{Sample, Nothing}
+use Rattle.blheli_telemetry.specs.declared.frame.EscTelemetry.{EscTelemetry}
 use Rattle.blheli_telemetry.specs.declared.parser.ParserStats.{ParserStats}
 use Rattle.blheli_telemetry.specs.declared.parser.StreamParser.{StreamParser}
 use Rattle.c_calls.specs.Frame.{fields_of}
 
-abbrev pub mark_of : Parsed → ℕ
-mark_of (Sample t) = 1
-mark_of Nothing = 0
+abbrev pub mark_of : Option EscTelemetry → ℕ
+mark_of (Some t) = 1
+mark_of None = 0
 
 -- the fields of the sample that the byte at place i gave, if it did
-abbrev pub filled_at : ℕ → Parsed → List ℕ → List ℕ
-filled_at i (Sample t) out = overwrite (5 * i) (fields_of t) out
-filled_at i Nothing out = out
+abbrev pub filled_at : ℕ → Option EscTelemetry → List ℕ → List ℕ
+filled_at i (Some t) out = overwrite (5 * i) (fields_of t) out
+filled_at i None out = out
 
 -- the marks of bytes, the first of them at place i
-unfoldable pub marked : ℕ → List Parsed → List ℕ → List ℕ
+unfoldable pub marked : ℕ → List (Option EscTelemetry) → List ℕ → List ℕ
 marked i [] out = out
 marked i (p ∷ ps) out = marked (i + 1) ps (set out i (mark_of p))
 
-unfoldable pub filled : ℕ → List Parsed → List ℕ → List ℕ
+unfoldable pub filled : ℕ → List (Option EscTelemetry) → List ℕ → List ℕ
 filled i [] out = out
 filled i (p ∷ ps) out = filled (i + 1) ps (filled_at i p out)
 
@@ -39,7 +38,7 @@ counts_in s out = overwrite 0 (s.valid_frames ∷ s.crc_failures ∷ s.discarded
 -- a mark and five fields for each byte, and three counts
 unfoldable pub fits : List ℕ → List ℕ → List ℕ → List ℕ → Bool
 fits bytes gave fields counts =
-    pick (leb (length bytes) (length gave)) (pick (leb (length bytes) (length fields / 5)) (leb 3 (length counts)) false) false
+    nat_le (length bytes) (length gave) && nat_le (length bytes) (length fields / 5) && nat_le 3 (length counts)
 
 -- 0 or 9, and the lent buffers afterwards: all as found where one is too short
 abbrev pub stream_number : List ℕ → List ℕ → List ℕ → List ℕ → ℕ

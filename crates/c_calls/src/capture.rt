@@ -2,16 +2,13 @@
 ghost use Rattle.blheli_telemetry.specs.Capture.{Searched};
 ghost use Rattle.c_calls.specs.Capture.{placed};
 
-use blheli_telemetry::{Found, find_frame};
+use blheli_telemetry::find_frame;
 
 // The start of ten bytes that are a good frame; the capture's length where there are none.
+#[tactic(auto, using(crate::proofs::PlaceLaws::searched_place))]
 #[unsafe(no_mangle)]
 pub extern "C" fn esc_find_frame(capture: &[u8]) -> usize
     ensures { Searched capture.now (placed capture.now result) }
 {
-    let found = find_frame(capture);
-    match found {
-        Found::At(start) => start,
-        Found::Nowhere => capture.len(),
-    }
+    find_frame(capture).unwrap_or(capture.len())
 }

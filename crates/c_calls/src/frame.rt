@@ -3,12 +3,14 @@
 ghost use Rattle.std.specs.Prelude.{◌≡◌, ◌+◌, ◌≤◌, length};
 ghost use Rattle.base.specs.BigEndian.{overwrite};
 ghost use Rattle.blheli_telemetry.specs.Frame.{frame_reply, frame_written};
-ghost use Rattle.base.specs.Reply.{number_of};
+ghost use Rattle.base.specs.Reply.{replied, number_of};
 ghost use Rattle.c_calls.specs.Frame.{telemetry_by, fields_of, read_number, fields_read};
 
-use blheli_telemetry::{Decoded, Encoded, EscTelemetry, FRAME_LEN, decode, encode};
+use crate::answer::number;
+use base::Refusal;
+use blheli_telemetry::{EscTelemetry, FRAME_LEN, decode, encode};
 
-const FIELDS: usize = 5;
+pub(crate) const FIELDS: usize = 5;
 
 // 0 where the frame is good, and its fields; 5, 9 or 10 where it is not, or where they have no room.
 #[unsafe(no_mangle)]
@@ -16,21 +18,7 @@ pub extern "C" fn esc_frame_read(frame: &[u8], fields: &mut [u16]) -> u8
     ensures value { result ≡ read_number frame.now (length fields.old) }
     ensures fields_after { fields.new ≡ fields_read frame.now fields.old }
 {
-    if frame.len() != FRAME_LEN {
-        return 5;
-    }
-    if fields.len() < FIELDS {
-        return 9;
-    }
-    let decoded = decode(frame);
-    match decoded {
-        Decoded::Telemetry(telemetry) => {
-            put_fields(telemetry, fields, 0);
-            0
-        }
-        Decoded::Length => 5,
-        Decoded::Crc => 10,
-    }
+    number(read_fields(frame, fields))
 }
 
 // 0, and the frame's ten bytes; or 9.
@@ -53,20 +41,36 @@ pub extern "C" fn esc_frame_write(
         consumption_mah,
         erpm_div100,
     };
-    let encoded = encode(telemetry, out);
-    match encoded {
-        Encoded::Written => 0,
-        Encoded::Space => 9,
-    }
+    number(encode(telemetry, out))
 }
 
+// The lowest number that fits: the frame's length, 5, before the room lent, 9, before the check byte, 10.
+#[tactic(auto, using(blheli_telemetry::proofs::FrameLaws::read_length), unfolding(crate::specs::Frame::read_number, crate::specs::Frame::fields_read))]
+fn read_fields(frame: &[u8], fields: &mut [u16]) -> Result<(), Refusal>
+    ensures value { number_of (replied result) ≡ read_number frame.now (length fields.old) }
+    ensures fields_after { fields.new ≡ fields_read frame.now fields.old }
+{
+    if frame.len() != FRAME_LEN {
+        return Err(Refusal::Length);
+    }
+    if fields.len() < FIELDS {
+        return Err(Refusal::Space);
+    }
+    let telemetry = decode(frame)?;
+    put_fields(telemetry, fields, 0);
+    Ok(())
+}
+
+#[tactic(auto, unfolding(base::specs::BigEndian::overwrite))]
 pub(crate) fn put_fields(telemetry: EscTelemetry, fields: &mut [u16], at: usize)
     requires { at + 5 ≤ length fields.old }
     ensures { fields.new ≡ overwrite at (fields_of telemetry) fields.old }
 {
-    fields[at] = telemetry.temperature_c as u16;
-    fields[at + 1] = telemetry.voltage_cv;
-    fields[at + 2] = telemetry.current_ca;
-    fields[at + 3] = telemetry.consumption_mah;
-    fields[at + 4] = telemetry.erpm_div100;
+    fields[at..at + FIELDS].copy_from_slice(&[
+        u16::from(telemetry.temperature_c),
+        telemetry.voltage_cv,
+        telemetry.current_ca,
+        telemetry.consumption_mah,
+        telemetry.erpm_div100,
+    ]);
 }

@@ -5,6 +5,7 @@
 // left as it was found wherever a call is refused.
 #![tactic(auto)]
 
+mod answer;
 mod board_map;
 mod capture;
 mod crc;

@@ -5,7 +5,7 @@ ghost use Rattle.base.specs.Handed.{handed_reply, handed_output};
 ghost use Rattle.base.specs.Reply.{number_of};
 ghost use Rattle.c_calls.specs.Lent.{lent_after};
 
-use base::Handed;
+use crate::answer::store;
 use unit_text::session;
 
 // 0 where the answers were written, and how many characters they have; or 9.
@@ -15,12 +15,5 @@ pub extern "C" fn esc_unit_session(text: &[u8], out: &mut [u8], count: &mut usiz
     ensures out_after { out.new ≡ handed_output (session_text text.now) out.old }
     ensures count_after { count.new ≡ lent_after (handed_reply (session_text text.now) (length out.old)) count.old }
 {
-    let told = session(text, out);
-    match told {
-        Handed::Written(n) => {
-            *count = n;
-            0
-        }
-        Handed::Space => 9,
-    }
+    store(session(text, out), count)
 }

@@ -4,7 +4,8 @@ ghost use Rattle.base.specs.Reply.{number_of};
 ghost use Rattle.airframe.specs.Speed.{speed_of};
 ghost use Rattle.c_calls.specs.Lent.{lent_after};
 
-use airframe::{MotorSpeed, motor_speed};
+use crate::answer::store;
+use airframe::motor_speed;
 
 // 0, and the motor's turns in a minute, rounded down; or 11.
 #[unsafe(no_mangle)]
@@ -12,12 +13,5 @@ pub extern "C" fn esc_motor_speed(erpm_div100: u16, magnets: u8, rpm: &mut u32) 
     ensures value { result ≡ number_of (speed_of erpm_div100 magnets) }
     ensures rpm_after { rpm.new ≡ lent_after (speed_of erpm_div100 magnets) rpm.old }
 {
-    let speed = motor_speed(erpm_div100, magnets);
-    match speed {
-        MotorSpeed::Rpm(turns) => {
-            *rpm = turns;
-            0
-        }
-        MotorSpeed::Magnets => 11,
-    }
+    store(motor_speed(erpm_div100, magnets), rpm)
 }

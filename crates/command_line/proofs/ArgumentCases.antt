@@ -1,8 +1,6 @@
 -- Arguments as they are typed, in ASCII, by computation: where options are looked for, and behind `--`.
-use mathlib.Core.Path.{◌≡◌, refl}
-use mathlib.Core.Bool.{true, false}
-use mathlib.Core.List.{[], ◌∷◌}
-use Rattle.command_line.specs.Argument.{kind_of, option_or_file, same, starts_with_dash}
+use Rattle.std.proofs.Common.{◌≡◌, true, false, [], ◌∷◌, refl}
+use Rattle.command_line.specs.Argument.{kind_of, option_or_file}
 use Rattle.command_line.specs.declared.argument.Argument.TheVariants.{Input, File, EndOfOptions, Help, Version, UnknownOption}
 
 pub record ArgumentCases : Type 0 where
@@ -33,7 +31,7 @@ pub record ArgumentCases : Type 0 where
   pub file_behind : kind_of false (97 ∷ []) ≡ File
 
 pub argument-cases : ArgumentCases
-unfolding kind_of option_or_file same starts_with_dash
+unfolding kind_of option_or_file
 argument-cases = record {
   input = refl;
   end = refl;

@@ -1,3 +1,2 @@
--- ArgumentLaws: when two texts are the same. ArgumentCases: arguments as they are typed.
-pub mod ArgumentLaws
+-- Arguments as they are typed.
 pub mod ArgumentCases

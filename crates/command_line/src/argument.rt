@@ -1,6 +1,6 @@
 // What an argument of the command line is.
 ghost use Rattle.std.specs.Prelude.{◌≡◌};
-ghost use Rattle.command_line.specs.Argument.{kind_of, option_or_file, same, starts_with_dash};
+ghost use Rattle.command_line.specs.Argument.{kind_of, option_or_file};
 
 #[derive(Clone, Copy)]
 pub enum Argument {
@@ -15,10 +15,11 @@ pub enum Argument {
 }
 
 // What an argument is: an option only where `--` has not ended them.
+#[tactic(auto, unfolding(crate::specs::Argument::kind_of))]
 pub fn classify(text: &[u8], options: bool) -> Argument
     ensures { result ≡ kind_of options text.now }
 {
-    if is(text, b"-") {
+    if text == b"-".as_slice() {
         return Argument::Input;
     }
     if !options {
@@ -27,35 +28,21 @@ pub fn classify(text: &[u8], options: bool) -> Argument
     option_or_file(text)
 }
 
+#[tactic(auto, unfolding(crate::specs::Argument::option_or_file))]
 fn option_or_file(text: &[u8]) -> Argument
     ensures { result ≡ option_or_file text.now }
 {
-    if is(text, b"--") {
+    if text == b"--".as_slice() {
         return Argument::EndOfOptions;
     }
-    if is(text, b"--help") {
+    if text == b"--help".as_slice() {
         return Argument::Help;
     }
-    if is(text, b"--version") {
+    if text == b"--version".as_slice() {
         return Argument::Version;
     }
-    if starts_with_dash(text) {
+    if text.starts_with(b"-") {
         return Argument::UnknownOption;
     }
     Argument::File
-}
-
-fn starts_with_dash(text: &[u8]) -> bool
-    ensures { result ≡ starts_with_dash text.now }
-{
-    if text.len() == 0 {
-        return false;
-    }
-    text[0] == b'-'
-}
-
-fn is(text: &[u8], word: &[u8]) -> bool
-    ensures { result ≡ same text.now word.now }
-{
-    text == word
 }

@@ -1,4 +1,3 @@
--- Read in this order: how long answers are; their buffer; then cases that pin the layout, made of bytes that rise.
+-- Read in this order: how long answers are; then cases that pin the layout, made of bytes that rise.
 pub mod AnswerLaws
-pub mod EncodedLaws
 pub mod AnswerCases

@@ -1,5 +1,5 @@
 -- The bytes of an answer (document 01, 'Records'): an accepted answer starts with 00, and a refusal is its number alone.
-use Rattle.std.specs.Prelude.{ℕ, Bool, true, false, List, [], ◌∷◌, ◌++◌}
+use Rattle.std.specs.Prelude.{ℕ, Bool, true, false, Option, Some, None, List, [], ◌∷◌, ◌++◌, take}
 use Rattle.base.specs.Reply.{Reply, accepted, refused}
 use Rattle.base.specs.BigEndian.{bytes_of}
 use Rattle.blheli_telemetry.specs.Frame.{payload_of}
@@ -8,25 +8,16 @@ use Rattle.esc_lanes.specs.Output.{lane_of}
 use Rattle.esc_lanes.specs.declared.request.EscActuatorRequest.{EscActuatorRequest}
 use Rattle.esc_lanes.specs.declared.request.EscTelemetryUpdate.{EscTelemetryUpdate}
 use Rattle.esc_feedback.specs.declared.stats.EscManagerStats.{EscManagerStats}
-use Rattle.esc_feedback.specs.declared.answer.NextRequest.{NextRequest}
-use Rattle.esc_feedback.specs.declared.answer.NextRequest.TheVariants as next
 use Rattle.esc_feedback.specs.declared.answer.EscManagerTimeout.{EscManagerTimeout}
 use Rattle.esc_feedback.specs.declared.answer.EscManagerTimeout.TheVariants as timeout
-use Rattle.esc_feedback.specs.declared.answer.BackAfterRetries.{BackAfterRetries}
-use Rattle.esc_feedback.specs.declared.answer.BackAfterRetries.TheVariants as back
 use Rattle.esc_idle.specs.declared.idle_verdict.EscIdleQualificationFailure.{EscIdleQualificationFailure}
 use Rattle.esc_idle.specs.declared.idle_verdict.EscIdleQualificationFailure.TheVariants as failure
+use Rattle.esc_idle.specs.declared.idle_verdict.EscIdleQualificationStatus.{EscIdleQualificationStatus}
 use Rattle.esc_idle.specs.declared.idle_verdict.EscIdleQualificationStatus.TheVariants as idle
 use Rattle.esc_answers.specs.declared.answer.Figure.{Figure}
-use Rattle.esc_answers.specs.declared.answer.IdleAnswer.{IdleAnswer}
-use Rattle.esc_answers.specs.declared.answer.IdleAnswer.TheVariants as idle_answer
 use Rattle.esc_answers.specs.declared.answer.Delivered.{Delivered}
 use Rattle.esc_answers.specs.declared.answer.AckAnswer.{AckAnswer}
 use Rattle.esc_answers.specs.declared.answer.AckAnswer.TheVariants as ack
-use Rattle.esc_answers.specs.declared.answer.WireAnswer.{WireAnswer}
-use Rattle.esc_answers.specs.declared.answer.WireAnswer.TheVariants as wire
-use Rattle.esc_answers.specs.declared.answer.StoredAnswer.{StoredAnswer}
-use Rattle.esc_answers.specs.declared.answer.StoredAnswer.TheVariants as stored
 use Rattle.esc_answers.specs.declared.answer.UnitReport.{UnitReport}
 use Rattle.esc_answers.specs.declared.answer.Answer.{Answer}
 use Rattle.esc_answers.specs.declared.answer.Answer.TheVariants as answer
@@ -35,6 +26,11 @@ use Rattle.esc_answers.specs.declared.answer.Answer.TheVariants as answer
 abbrev pub flag_byte : Bool → ℕ
 flag_byte true = 0x01
 flag_byte false = 0x00
+
+-- 00 none, or 01 and what there is
+abbrev pub optional_bytes : {A : Type 0} → (A → List ℕ) → Option A → List ℕ
+optional_bytes bytes None = 0x00 ∷ []
+optional_bytes bytes (Some a) = 0x01 ∷ bytes a
 
 -- S L
 unfoldable pub request_bytes : EscActuatorRequest → List ℕ
@@ -51,23 +47,22 @@ sample_bytes u =
 unfoldable pub failure_bytes : EscIdleQualificationFailure → List ℕ
 failure_bytes failure.InvalidConfig = 0x03 ∷ []
 failure_bytes (failure.Overspeed output erpm) = 0x04 ∷ lane_of output ∷ bytes_of 2 erpm
-failure_bytes (failure.Timeout a b c d) = 0x05 ∷ a ∷ b ∷ c ∷ d ∷ []
+failure_bytes (failure.Timeout counts) = 0x05 ∷ take 4 counts
 
 -- 00 no check, 01 pending, 02 qualified
-unfoldable pub idle_bytes : IdleAnswer → List ℕ
-idle_bytes idle_answer.NoCheck = 0x00 ∷ []
-idle_bytes (idle_answer.Status idle.Pending) = 0x01 ∷ []
-idle_bytes (idle_answer.Status idle.Qualified) = 0x02 ∷ []
-idle_bytes (idle_answer.Status (idle.Failed f)) = failure_bytes f
+unfoldable pub idle_bytes : Option EscIdleQualificationStatus → List ℕ
+idle_bytes None = 0x00 ∷ []
+idle_bytes (Some idle.Pending) = 0x01 ∷ []
+idle_bytes (Some idle.Qualified) = 0x02 ∷ []
+idle_bytes (Some (idle.Failed f)) = failure_bytes f
 
 -- in 03 and 05 an idle status follows the sample
 unfoldable pub delivered_bytes : Delivered → List ℕ
 delivered_bytes d = 0x02 ∷ (sample_bytes d.update ++ idle_bytes d.status)
 
 -- 01: 00 none or 01 S L
-unfoldable pub next_bytes : NextRequest → List ℕ
-next_bytes next.None = 0x00 ∷ []
-next_bytes (next.Some q) = 0x01 ∷ request_bytes q
+unfoldable pub next_bytes : Option EscActuatorRequest → List ℕ
+next_bytes q = optional_bytes request_bytes q
 
 -- 03: 00 rejected, 01 accepted, 02 sample
 unfoldable pub ack_bytes : AckAnswer → List ℕ
@@ -76,20 +71,19 @@ ack_bytes ack.Accepted = 0x01 ∷ []
 ack_bytes (ack.Sample d) = delivered_bytes d
 
 -- 04: 00 none, 01 acknowledgement or 02 response timeout, and S L
-unfoldable pub timeout_bytes : EscManagerTimeout → List ℕ
-timeout_bytes timeout.None = 0x00 ∷ []
-timeout_bytes (timeout.ActuatorAck q) = 0x01 ∷ request_bytes q
-timeout_bytes (timeout.TelemetryResponse q) = 0x02 ∷ request_bytes q
+unfoldable pub timeout_bytes : Option EscManagerTimeout → List ℕ
+timeout_bytes None = 0x00 ∷ []
+timeout_bytes (Some (timeout.ActuatorAck q)) = 0x01 ∷ request_bytes q
+timeout_bytes (Some (timeout.TelemetryResponse q)) = 0x02 ∷ request_bytes q
 
 -- 05: 00 none or 02 sample
-unfoldable pub wire_bytes : WireAnswer → List ℕ
-wire_bytes wire.None = 0x00 ∷ []
-wire_bytes (wire.Sample d) = delivered_bytes d
+unfoldable pub wire_bytes : Option Delivered → List ℕ
+wire_bytes None = 0x00 ∷ []
+wire_bytes (Some d) = delivered_bytes d
 
 -- 08: 00 none, or 01 and a count (4)
-unfoldable pub back_bytes : BackAfterRetries → List ℕ
-back_bytes back.None = 0x00 ∷ []
-back_bytes (back.Some n) = 0x01 ∷ bytes_of 4 n
+unfoldable pub back_bytes : Option ℕ → List ℕ
+back_bytes n = optional_bytes (bytes_of 4) n
 
 -- the parser's three counts
 abbrev pub parser_bytes : ParserStats → List ℕ
@@ -110,9 +104,8 @@ unfoldable pub report_bytes : UnitReport → List ℕ
 report_bytes r = flag_byte r.faulted ∷ flag_byte r.retrying ∷ stats_bytes r.stats
 
 -- 0d: 00 none, or 01 sample
-unfoldable pub stored_bytes : StoredAnswer → List ℕ
-stored_bytes stored.None = 0x00 ∷ []
-stored_bytes (stored.Sample u) = 0x01 ∷ sample_bytes u
+unfoldable pub stored_bytes : Option EscTelemetryUpdate → List ℕ
+stored_bytes u = optional_bytes sample_bytes u
 
 -- 0e: samples (4), hottest (1), lowest voltage (2)
 unfoldable pub figure_bytes : Figure → List ℕ

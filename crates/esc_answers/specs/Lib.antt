@@ -1,3 +1,3 @@
--- Read in this order: what each answer's bytes are; the buffer that has room for any.
+-- Read in this order: what each answer's bytes are; that an answer is 00 and its body.
 pub mod Answer
-pub mod Encoded
+pub mod Body

@@ -1,20 +1,13 @@
 // The answers of an opened unit, one variant for each shape that document 01 gives them.
-use esc_feedback::{BackAfterRetries, EscManagerStats, EscManagerTimeout, NextRequest};
+use esc_feedback::{EscManagerStats, EscManagerTimeout};
 use esc_idle::EscIdleQualificationStatus;
-use esc_lanes::EscTelemetryUpdate;
+use esc_lanes::{EscActuatorRequest, EscTelemetryUpdate};
 
-// What the idle check says, if there is one.
-#[derive(Clone, Copy)]
-pub enum IdleAnswer {
-    NoCheck,
-    Status(EscIdleQualificationStatus),
-}
-
-// A delivered sample, and what the idle check says to it.
+// A delivered sample, and what the idle check says to it, if there is one.
 #[derive(Clone, Copy)]
 pub struct Delivered {
     pub update: EscTelemetryUpdate,
-    pub status: IdleAnswer,
+    pub status: Option<EscIdleQualificationStatus>,
 }
 
 #[derive(Clone, Copy)]
@@ -22,18 +15,6 @@ pub enum AckAnswer {
     Rejected,
     Accepted,
     Sample(Delivered),
-}
-
-#[derive(Clone, Copy)]
-pub enum WireAnswer {
-    None,
-    Sample(Delivered),
-}
-
-#[derive(Clone, Copy)]
-pub enum StoredAnswer {
-    None,
-    Sample(EscTelemetryUpdate),
 }
 
 #[derive(Clone, Copy)]
@@ -56,23 +37,23 @@ pub enum Answer {
     // 00, 06, 09, 0a
     Done,
     // 01
-    Request(NextRequest),
+    Request(Option<EscActuatorRequest>),
     // 02, 07
     Decided(bool),
     // 03
     Ack(AckAnswer),
     // 04
-    Timeout(EscManagerTimeout),
+    Timeout(Option<EscManagerTimeout>),
     // 05
-    Wire(WireAnswer),
+    Wire(Option<Delivered>),
     // 08
-    BackAfterRetries(BackAfterRetries),
+    BackAfterRetries(Option<u32>),
     // 0b
-    Idle(IdleAnswer),
+    Idle(Option<EscIdleQualificationStatus>),
     // 0c
     Report(UnitReport),
     // 0d
-    Stored(StoredAnswer),
+    Stored(Option<EscTelemetryUpdate>),
     // 0e
     Figures(Figure),
 }

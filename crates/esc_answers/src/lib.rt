@@ -2,15 +2,16 @@
 #![tactic(auto)]
 
 mod answer;
-mod encode;
-mod put;
-mod put_parts;
+mod answer_bytes;
+mod body;
+mod counts;
+mod numbers;
+mod outcomes;
+mod part;
+mod samples;
 mod write;
 
-pub use answer::{
-    AckAnswer, Answer, Delivered, Figure, IdleAnswer, StoredAnswer, UnitReport, WireAnswer,
-};
-pub use encode::{
-    EncodedAnswer, LONGEST_ANSWER, encode_answer, encode_delivered, encode_next, encode_timeout,
-};
+pub use answer::{AckAnswer, Answer, Delivered, Figure, UnitReport};
+pub use answer_bytes::{AnswerBytes, LONGEST_ANSWER};
+pub use body::encode;
 pub use write::write_answer;

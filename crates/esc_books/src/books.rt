@@ -2,49 +2,38 @@
 // most one idle check, figures. It stands beside the manager, so that the calls of the wire do not move it.
 ghost use Rattle.std.specs.Prelude.{◌≡◌};
 ghost use Rattle.esc_books.specs.Figures.{figure_at};
-ghost use Rattle.esc_books.specs.Books.{no_books, checked_by, samples_dropped, books_judged, booked_in, idle_status, stored_at};
+ghost use Rattle.esc_books.specs.Books.{no_books, checked_by, samples_dropped, if_checking, booked_in, idle_status, stored_at};
 
 use crate::figures::Figures;
-use esc_answers::{Figure, IdleAnswer, StoredAnswer};
-use esc_idle::{EscIdleJudged, EscIdleQualification, EscIdleQualificationConfig};
-use esc_lanes::{EscOutput, EscSamples, EscTelemetryUpdate, StoredObservation};
+use esc_answers::Figure;
+use esc_idle::{
+    EscIdleJudged, EscIdleQualification, EscIdleQualificationConfig, EscIdleQualificationStatus,
+};
+use esc_lanes::{EscOutput, EscSamples, EscTelemetryUpdate};
 
 #[derive(Clone, Copy)]
 pub struct Books {
     samples: EscSamples,
-    // Whether there is an idle check.
-    checking: bool,
-    idle: EscIdleQualification,
+    idle: Option<EscIdleQualification>,
     figures: Figures,
 }
 
+// The books after a call, and what the idle check says, if there is one.
 #[derive(Clone, Copy)]
 pub struct Booked {
     pub books: Books,
-    pub status: IdleAnswer,
+    pub status: Option<EscIdleQualificationStatus>,
 }
 
 impl Books {
-    // No sample, no check. The check's settings are never asked for.
+    // No sample, no check.
     pub fn new() -> Self
         ensures { result ≡ no_books }
     {
-        let samples = EscSamples::new();
-        let config = EscIdleQualificationConfig {
-            min_erpm_div100: 0,
-            max_erpm_div100: 0,
-            spinup_grace_ms: 0,
-            timeout_ms: 0,
-            max_sample_age_ms: 0,
-            required_consecutive_samples: 0,
-        };
-        let idle = EscIdleQualification::new(config, 0);
-        let figures = Figures::new();
         Self {
-            samples,
-            checking: false,
-            idle,
-            figures,
+            samples: EscSamples::new(),
+            idle: None,
+            figures: Figures::new(),
         }
     }
 
@@ -53,9 +42,7 @@ impl Books {
         ensures { result ≡ checked_by self config started_at_ms }
     {
         let mut books = self;
-        let idle = EscIdleQualification::new(config, started_at_ms);
-        books.idle = idle;
-        books.checking = true;
+        books.idle = Some(EscIdleQualification::new(config, started_at_ms));
         books
     }
 
@@ -64,80 +51,64 @@ impl Books {
         ensures { result ≡ samples_dropped self }
     {
         let mut books = self;
-        let samples = EscSamples::new();
-        books.samples = samples;
+        books.samples = EscSamples::new();
         books
     }
 
     // A delivered sample is stored, counted in the figures and shown to the check.
+    #[tactic(auto, unfolding(crate::specs::Books::booked_in))]
     pub fn booked(self, update: EscTelemetryUpdate, now_ms: u64) -> Booked
         ensures { result ≡ booked_in self update now_ms }
     {
         let mut books = self;
-        let samples = books.samples;
-        let stored = samples.stored(update);
-        books.samples = stored;
-        let figures = books.figures;
-        let counted = figures.with(update);
-        books.figures = counted;
-        if !books.checking {
-            return Booked {
-                books,
-                status: IdleAnswer::NoCheck,
-            };
-        }
-        let idle = books.idle;
-        books.judged(idle.observe(update, now_ms))
+        books.samples = self.samples.stored(update);
+        books.figures = self.figures.with(update);
+        books.judged(self.idle.map(|idle| idle.observe(update, now_ms)))
     }
 
     // What the idle check says at a time, and the books with its verdict.
+    #[tactic(auto, unfolding(crate::specs::Books::idle_status))]
     pub fn idle_status(self, now_ms: u64) -> Booked
         ensures { result ≡ idle_status self now_ms }
     {
-        if !self.checking {
-            return Booked {
-                books: self,
-                status: IdleAnswer::NoCheck,
-            };
-        }
-        let idle = self.idle;
-        self.judged(idle.status(now_ms))
+        self.judged(self.idle.map(|idle| idle.status(now_ms)))
     }
 
-    // The check as it judged, and what it said.
-    fn judged(self, found: EscIdleJudged) -> Booked
-        ensures { result ≡ books_judged self found }
+    // The check, if there is one, as it judged, and what it said.
+    fn judged(self, found: Option<EscIdleJudged>) -> Booked
+        ensures { result ≡ if_checking self found }
     {
-        let mut books = self;
-        let idle = found.idle;
-        books.idle = idle;
-        let status = found.status;
-        Booked {
-            books,
-            status: IdleAnswer::Status(status),
+        match found {
+            None => Booked {
+                books: self,
+                status: None,
+            },
+            Some(judged) => Booked {
+                books: Self {
+                    idle: Some(judged.idle),
+                    ..self
+                },
+                status: Some(judged.status),
+            },
         }
     }
 
     // 0d: the lane's newest sample since the latest recovery.
-    pub fn stored(self, output: EscOutput) -> StoredAnswer
+    pub fn stored(self, output: EscOutput) -> Option<EscTelemetryUpdate>
         ensures { result ≡ stored_at self output }
     {
-        let samples = self.samples;
-        let held = samples.at(output);
-        match held {
-            StoredObservation::None => StoredAnswer::None,
-            StoredObservation::Some(observation) => StoredAnswer::Sample(EscTelemetryUpdate {
+        self.samples
+            .at(output)
+            .map(|observation| EscTelemetryUpdate {
                 output,
                 observation,
-            }),
-        }
+            })
     }
 
     // 0e: the lane's figures.
     pub fn figure(self, output: EscOutput) -> Figure
         ensures { result ≡ figure_at self.figures output }
     {
-        let figures = self.figures;
-        figures.at(output)
+        self.figures.at(output)
     }
 }

@@ -1,6 +1,6 @@
 // Figures of each lane: samples delivered, the largest temperature and the lowest voltage. They are
 // kept over recovery.
-ghost use Rattle.std.specs.Prelude.{◌≡◌, min, max};
+ghost use Rattle.std.specs.Prelude.{◌≡◌};
 ghost use Rattle.esc_books.specs.Figures.{no_figure, with_sample, no_figures, figure_at, figures_with};
 
 use base::saturating_inc;
@@ -18,17 +18,16 @@ impl Figures {
     pub fn new() -> Self
         ensures { result ≡ no_figures }
     {
-        let figure = no_figure();
-        let lanes = [figure; 4];
-        Self { lanes }
+        Self {
+            lanes: [no_figure(); 4],
+        }
     }
 
     // A lane's figures.
     pub fn at(self, output: EscOutput) -> Figure
         ensures { result ≡ figure_at self output }
     {
-        let lane = output.index();
-        self.lanes[lane]
+        self.lanes[output.index()]
     }
 
     // The figures with a delivered sample in its lane's.
@@ -36,12 +35,8 @@ impl Figures {
         ensures { result ≡ figures_with self update }
     {
         let mut figures = self;
-        let output = update.output;
-        let lane = output.index();
-        let old = figures.lanes[lane];
-        let sample = update.observation.sample;
-        let figure = with_sample(old, sample);
-        figures.lanes[lane] = figure;
+        let lane = update.output.index();
+        figures.lanes[lane] = with_sample(self.lanes[lane], update.observation.sample);
         figures
     }
 }
@@ -57,6 +52,7 @@ fn no_figure() -> Figure
     }
 }
 
+#[tactic(auto, unfolding(crate::specs::Figures::with_sample))]
 fn with_sample(figure: Figure, sample: EscTelemetry) -> Figure
     ensures { result ≡ with_sample figure sample }
 {
@@ -69,19 +65,7 @@ fn with_sample(figure: Figure, sample: EscTelemetry) -> Figure
     }
     Figure {
         samples: saturating_inc(figure.samples),
-        hottest_c: larger(figure.hottest_c, sample.temperature_c),
-        lowest_cv: smaller(figure.lowest_cv, sample.voltage_cv),
+        hottest_c: figure.hottest_c.max(sample.temperature_c),
+        lowest_cv: figure.lowest_cv.min(sample.voltage_cv),
     }
-}
-
-fn larger(a: u8, b: u8) -> u8
-    ensures { result ≡ max a b }
-{
-    if a < b { b } else { a }
-}
-
-fn smaller(a: u16, b: u16) -> u16
-    ensures { result ≡ min a b }
-{
-    if b < a { b } else { a }
 }

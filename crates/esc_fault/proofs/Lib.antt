@@ -1,2 +1,2 @@
--- One file: a law for each case of the fault's rules.
+-- One file: what the rule of recovery never allows.
 pub mod FaultLaws

@@ -4,7 +4,7 @@
 // can't be told from one of a later request, so telemetry stops. It resumes only while disarmed, after
 // a time with no wire byte and no acknowledgement: by then nothing that the request caused can still
 // arrive.
-ghost use Rattle.std.specs.Prelude.{◌≡◌, ◌-◌, min, max};
+ghost use Rattle.std.specs.Prelude.{◌≡◌, is_some};
 ghost use Rattle.esc_fault.specs.Fault.{no_fault, after_hearing, timed_out_at, quiet_window, may_recover, retried};
 
 use crate::backoff::ESC_RETRY_BACKOFF_STEPS;
@@ -12,9 +12,8 @@ use base::saturating_inc;
 
 #[derive(Clone, Copy)]
 pub struct Fault {
-    pub faulted: bool,
-    // The fault, or the last byte or acknowledgement seen since.
-    pub quiet_since_ms: u64,
+    // While faulted: the fault, or the last byte or acknowledgement seen since.
+    pub quiet_since_ms: Option<u64>,
     // Recoveries since the last delivered sample: the ESCs may be unpowered.
     pub retries_without_frame: u32,
 }
@@ -25,85 +24,65 @@ impl Fault {
         ensures { result ≡ no_fault }
     {
         Self {
-            faulted: false,
-            quiet_since_ms: 0,
+            quiet_since_ms: None,
             retries_without_frame: 0,
         }
+    }
+
+    // Whether a timeout has stopped telemetry.
+    pub fn is_faulted(self) -> bool
+        ensures { result ≡ is_some self.quiet_since_ms }
+    {
+        self.quiet_since_ms.is_some()
     }
 
     // While faulted, a byte or an acknowledgement at at_ms moves the quiet time later.
     pub fn heard(self, at_ms: u64) -> Fault
         ensures { result ≡ after_hearing self at_ms }
     {
-        if !self.faulted {
-            return self;
+        Fault {
+            quiet_since_ms: self.quiet_since_ms.map(|since_ms| since_ms.max(at_ms)),
+            ..self
         }
-        let mut fault = self;
-        fault.quiet_since_ms = later(self.quiet_since_ms, at_ms);
-        fault
     }
 
     // A timeout: the quiet time starts at it.
     pub fn timed_out(self, now_ms: u64) -> Fault
         ensures { result ≡ timed_out_at self now_ms }
     {
-        let mut fault = self;
-        fault.faulted = true;
-        fault.quiet_since_ms = now_ms;
-        fault
+        Fault {
+            quiet_since_ms: Some(now_ms),
+            ..self
+        }
     }
 
     // The quiet window that the next recovery needs.
+    #[tactic(auto, unfolding(crate::specs::Fault::quiet_window))]
     pub fn recovery_quiet_ms(self, quiet_ms: u32) -> u64
         ensures { result ≡ quiet_window quiet_ms self.retries_without_frame }
     {
-        let doublings = at_most_steps(self.retries_without_frame);
-        (quiet_ms as u64) << doublings
+        u64::from(quiet_ms) << self.retries_without_frame.min(ESC_RETRY_BACKOFF_STEPS)
     }
 
     // Whether telemetry may resume. The time since the quiet start saturates, unlike that of elapsed_at_least: an
     // acknowledgement stamped after now_ms must keep the window open, not end it.
+    #[tactic(auto, unfolding(crate::specs::Fault::may_recover))]
     pub fn may_recover(self, quiet_ms: u32, now_ms: u64, armed: bool) -> bool
         ensures { result ≡ may_recover self quiet_ms now_ms armed }
     {
-        if !self.faulted {
+        let Some(since_ms) = self.quiet_since_ms else {
             return false;
-        }
-        if armed {
-            return false;
-        }
-        self.recovery_quiet_ms(quiet_ms) <= saturating_sub(now_ms, self.quiet_since_ms)
+        };
+        !armed && self.recovery_quiet_ms(quiet_ms) <= now_ms.saturating_sub(since_ms)
     }
 
     // After a recovery.
     pub fn retried(self) -> Fault
         ensures { result ≡ retried self }
     {
-        let mut fault = self;
-        fault.faulted = false;
-        fault.retries_without_frame = saturating_inc(self.retries_without_frame);
-        fault
+        Fault {
+            quiet_since_ms: None,
+            retries_without_frame: saturating_inc(self.retries_without_frame),
+        }
     }
-}
-
-fn at_most_steps(retries: u32) -> u32
-    ensures { result ≡ min retries 3 }
-{
-    if retries < ESC_RETRY_BACKOFF_STEPS {
-        retries
-    } else {
-        ESC_RETRY_BACKOFF_STEPS
-    }
-}
-
-fn later(a_ms: u64, b_ms: u64) -> u64
-    ensures { result ≡ max a_ms b_ms }
-{
-    if a_ms < b_ms { b_ms } else { a_ms }
-}
-
-fn saturating_sub(a: u64, b: u64) -> u64
-    ensures { result ≡ a - b }
-{
-    if a < b { 0 } else { a - b }
 }

@@ -1,7 +1,3 @@
--- Read in this order: what 03 and 05 share (DeliveryLaws); then a file for each call, with a law for each case of it.
-pub mod DeliveryLaws
+-- What 02 compares, and a byte that is only held.
 pub mod QueueingLaws
-pub mod AckLaws
-pub mod TimeoutLaws
 pub mod WireLaws
-pub mod RecoveryLaws

@@ -3,7 +3,7 @@
 pub mod Config
 pub mod Stats
 pub mod Turn
-pub mod Outstanding
+pub mod Pending
 pub mod Manager
 pub mod Queueing
 pub mod Ack

@@ -1,63 +1,61 @@
 -- The manager: its parts, and what several calls do to them (document 01, 'Manager').
-use Rattle.std.specs.Prelude.{ℕ, ◌==◌}
+use Rattle.std.specs.Prelude.{ℕ, ◌==◌, Bool, Option, Some, None, is_some}
 use Rattle.base.specs.Choice.{pick}
 use Rattle.blheli_telemetry.specs.Parser.{new_parser}
 use Rattle.blheli_telemetry.specs.declared.parser.StreamParser.{StreamParser}
 use Rattle.esc_feedback.specs.Stats.{Count, raised, no_stats}
 use Rattle.esc_feedback.specs.Turn.{first_turn}
-use Rattle.esc_feedback.specs.Outstanding.{none_outstanding}
+use Rattle.esc_feedback.specs.Pending.{none_open}
 use Rattle.esc_fault.specs.Fault.{no_fault, after_hearing, retries_cleared}
-use Rattle.esc_feedback.specs.declared.answer.BackAfterRetries.{BackAfterRetries}
-use Rattle.esc_feedback.specs.declared.answer.BackAfterRetries.TheVariants as back
+use Rattle.esc_feedback.specs.declared.answer.After.{After}
 use Rattle.esc_feedback.specs.declared.config.EscManagerConfig.{EscManagerConfig}
 use Rattle.esc_feedback.specs.declared.stats.EscManagerStats.{EscManagerStats}
 use Rattle.esc_feedback.specs.declared.turn.Turn.{Turn}
-use Rattle.esc_feedback.specs.declared.outstanding.Outstanding.{Outstanding}
+use Rattle.esc_feedback.specs.declared.pending.PendingRequest.{PendingRequest}
 use Rattle.esc_fault.specs.declared.fault.Fault.{Fault}
-use Rattle.esc_feedback.specs.declared.manager.Back.{Back}
 use Rattle.esc_feedback.specs.declared.manager.EscManager.{EscManager}
-use Rattle.esc_feedback.specs.declared.manager.TakenBack.{TakenBack}
 
-abbrev pub manager_of : EscManagerConfig → ℕ → Turn → Outstanding → Fault → Back → StreamParser → EscManagerStats → EscManager
-manager_of config boot turn outstanding fault back parser stats =
+abbrev pub manager_of : EscManagerConfig → ℕ → Turn → Option PendingRequest → Fault → Option ℕ → StreamParser → EscManagerStats → EscManager
+manager_of config boot turn pending fault back parser stats =
     record {
       config = config;
       boot_started_ms = boot;
       turn = turn;
-      outstanding = outstanding;
+      pending = pending;
       fault = fault;
-      back = back;
+      back_after_retries = back;
       parser = parser;
       stats = stats;
     }
 
-abbrev pub noted : BackAfterRetries → Back
-noted note = record { note = note }
-
 -- one part replaced, the others kept
 abbrev pub set_turn : Turn → EscManager → EscManager
-set_turn x m = manager_of m.config m.boot_started_ms x m.outstanding m.fault m.back m.parser m.stats
+set_turn x m = manager_of m.config m.boot_started_ms x m.pending m.fault m.back_after_retries m.parser m.stats
 
-abbrev pub set_outstanding : Outstanding → EscManager → EscManager
-set_outstanding x m = manager_of m.config m.boot_started_ms m.turn x m.fault m.back m.parser m.stats
+abbrev pub set_pending : Option PendingRequest → EscManager → EscManager
+set_pending x m = manager_of m.config m.boot_started_ms m.turn x m.fault m.back_after_retries m.parser m.stats
 
 abbrev pub set_fault : Fault → EscManager → EscManager
-set_fault x m = manager_of m.config m.boot_started_ms m.turn m.outstanding x m.back m.parser m.stats
+set_fault x m = manager_of m.config m.boot_started_ms m.turn m.pending x m.back_after_retries m.parser m.stats
 
-abbrev pub set_back : Back → EscManager → EscManager
-set_back x m = manager_of m.config m.boot_started_ms m.turn m.outstanding m.fault x m.parser m.stats
+abbrev pub set_back : Option ℕ → EscManager → EscManager
+set_back x m = manager_of m.config m.boot_started_ms m.turn m.pending m.fault x m.parser m.stats
 
 abbrev pub set_parser : StreamParser → EscManager → EscManager
-set_parser x m = manager_of m.config m.boot_started_ms m.turn m.outstanding m.fault m.back x m.stats
+set_parser x m = manager_of m.config m.boot_started_ms m.turn m.pending m.fault m.back_after_retries x m.stats
 
 abbrev pub set_stats : EscManagerStats → EscManager → EscManager
-set_stats x m = manager_of m.config m.boot_started_ms m.turn m.outstanding m.fault m.back m.parser x
+set_stats x m = manager_of m.config m.boot_started_ms m.turn m.pending m.fault m.back_after_retries m.parser x
 
 abbrev pub counting : Count → EscManager → EscManager
 counting k m = set_stats (raised k m.stats) m
 
 abbrev pub new_manager : EscManagerConfig → ℕ → EscManager
-new_manager config boot = manager_of config boot first_turn none_outstanding no_fault (noted back.None) new_parser no_stats
+new_manager config boot = manager_of config boot first_turn none_open no_fault None new_parser no_stats
+
+-- a timeout has stopped telemetry
+abbrev pub is_faulted : EscManager → Bool
+is_faulted m = is_some m.fault.quiet_since_ms
 
 -- while faulted, a 05 or 03 moves the quiet start later
 abbrev pub heard_by : EscManager → ℕ → EscManager
@@ -67,9 +65,9 @@ heard_by m at = set_fault (after_hearing m.fault at) m
 unfoldable pub closed_by_sample : EscManager → EscManager
 closed_by_sample m =
     pick (m.fault.retries_without_frame == 0)
-    (set_outstanding none_outstanding m)
-    (set_fault (retries_cleared m.fault) (set_back (noted (back.Some m.fault.retries_without_frame)) (set_outstanding none_outstanding m)))
+    (set_pending none_open m)
+    (set_fault (retries_cleared m.fault) (set_back (Some m.fault.retries_without_frame) (set_pending none_open m)))
 
 -- 08 hands the note out once
-abbrev pub take_back : EscManager → TakenBack
-take_back m = record { manager = set_back (noted back.None) m; answer = m.back.note }
+abbrev pub take_back : EscManager → After (Option ℕ)
+take_back m = record { manager = set_back None m; answer = m.back_after_retries }

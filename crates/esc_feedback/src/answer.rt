@@ -1,10 +1,12 @@
 // What the manager's calls answer.
+use crate::manager::EscManager;
 use esc_lanes::{EscActuatorRequest, EscTelemetryUpdate};
 
+// The manager after a call, and the call's answer.
 #[derive(Clone, Copy)]
-pub enum NextRequest {
-    None,
-    Some(EscActuatorRequest),
+pub struct After<A> {
+    pub manager: EscManager,
+    pub answer: A,
 }
 
 #[derive(Clone, Copy)]
@@ -16,21 +18,6 @@ pub enum EscAckOutcome {
 
 #[derive(Clone, Copy)]
 pub enum EscManagerTimeout {
-    None,
     ActuatorAck(EscActuatorRequest),
     TelemetryResponse(EscActuatorRequest),
-}
-
-// What a byte of the wire delivers.
-#[derive(Clone, Copy)]
-pub enum WireUpdate {
-    None,
-    Some(EscTelemetryUpdate),
-}
-
-// How many retries it took until a sample came back.
-#[derive(Clone, Copy)]
-pub enum BackAfterRetries {
-    None,
-    Some(u32),
 }

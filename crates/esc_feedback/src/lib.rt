@@ -6,11 +6,11 @@
 mod answer;
 mod config;
 mod manager;
-mod outstanding;
+mod pending;
 mod stats;
 mod turn;
 
-pub use answer::{BackAfterRetries, EscAckOutcome, EscManagerTimeout, NextRequest, WireUpdate};
+pub use answer::{After, EscAckOutcome, EscManagerTimeout};
 pub use config::{ESC_REQUEST_EXPIRY_MS, EscManagerConfig, esc_request_expiry_ms};
-pub use manager::{Acked, EscManager, Marked, Polled, Received, Recovered, TakenBack};
+pub use manager::EscManager;
 pub use stats::EscManagerStats;

@@ -10,26 +10,15 @@ mod timeout;
 mod wire;
 
 ghost use Rattle.std.specs.Prelude.{◌≡◌, not, nat_eq};
-ghost use Rattle.esc_feedback.specs.Manager.{new_manager, closed_by_sample, take_back};
+ghost use Rattle.esc_feedback.specs.Manager.{is_faulted, new_manager, closed_by_sample, take_back};
 
-use crate::answer::BackAfterRetries;
+use crate::answer::After;
 use crate::config::EscManagerConfig;
-use crate::outstanding::Outstanding;
+use crate::pending::PendingRequest;
 use crate::stats::EscManagerStats;
 use crate::turn::Turn;
-pub use ack::Acked;
 use blheli_telemetry::StreamParser;
 use esc_fault::Fault;
-pub use queueing::Marked;
-pub use recovery::Recovered;
-pub use timeout::Polled;
-pub use wire::Received;
-
-// Set when a sample is delivered after retries, until taken for the log.
-#[derive(Clone, Copy)]
-pub struct Back {
-    pub note: BackAfterRetries,
-}
 
 // Most bytes only move the fault's quiet time and join the parser: these two are public, so that a
 // loop over bytes can change them in place.
@@ -38,17 +27,12 @@ pub struct EscManager {
     config: EscManagerConfig,
     boot_started_ms: u64,
     turn: Turn,
-    outstanding: Outstanding,
+    pending: Option<PendingRequest>,
     pub fault: Fault,
-    back: Back,
+    // Set when a sample is delivered after retries, until taken for the log.
+    back_after_retries: Option<u32>,
     pub parser: StreamParser,
     stats: EscManagerStats,
-}
-
-#[derive(Clone, Copy)]
-pub struct TakenBack {
-    pub manager: EscManager,
-    pub answer: BackAfterRetries,
 }
 
 impl EscManager {
@@ -56,31 +40,23 @@ impl EscManager {
     pub fn new(config: EscManagerConfig, boot_started_ms: u64) -> Self
         ensures { result ≡ new_manager config boot_started_ms }
     {
-        let turn = Turn::new();
-        let outstanding = Outstanding::none();
-        let fault = Fault::new();
-        let back = Back {
-            note: BackAfterRetries::None,
-        };
-        let parser = StreamParser::new();
-        let stats = EscManagerStats::new();
         Self {
             config,
             boot_started_ms,
-            turn,
-            outstanding,
-            fault,
-            back,
-            parser,
-            stats,
+            turn: Turn::new(),
+            pending: None,
+            fault: Fault::new(),
+            back_after_retries: None,
+            parser: StreamParser::new(),
+            stats: EscManagerStats::new(),
         }
     }
 
     // Whether a timeout has stopped telemetry.
     pub fn is_faulted(self) -> bool
-        ensures { result ≡ self.fault.faulted }
+        ensures { result ≡ is_faulted self }
     {
-        self.fault.faulted
+        self.fault.is_faulted()
     }
 
     // Whether telemetry is retrying after a timeout and no sample has been delivered since: a further
@@ -99,35 +75,29 @@ impl EscManager {
     }
 
     // Once, after a sample was delivered following retries: how many it took.
-    pub fn take_back_after_retries(self) -> TakenBack
+    pub fn take_back_after_retries(self) -> After<Option<u32>>
         ensures { result ≡ take_back self }
     {
-        let back = self.back;
-        let answer = back.note;
         let mut manager = self;
-        let taken = Back {
-            note: BackAfterRetries::None,
-        };
-        manager.back = taken;
-        TakenBack { manager, answer }
+        manager.back_after_retries = None;
+        After {
+            manager,
+            answer: self.back_after_retries,
+        }
     }
 
     // After a sample was delivered: nothing is open, and the retries, if any, are over and noted.
+    #[tactic(auto, unfolding(crate::specs::Manager::closed_by_sample))]
     fn delivered(self) -> EscManager
         ensures { result ≡ closed_by_sample self }
     {
-        let mut m = self;
-        let outstanding = Outstanding::none();
-        m.outstanding = outstanding;
-        let retries = m.fault.retries_without_frame;
-        if retries == 0 {
-            return m;
+        let mut manager = self;
+        manager.pending = None;
+        let retries = self.fault.retries_without_frame;
+        if retries != 0 {
+            manager.back_after_retries = Some(retries);
+            manager.fault.retries_without_frame = 0;
         }
-        let back = Back {
-            note: BackAfterRetries::Some(retries),
-        };
-        m.back = back;
-        m.fault.retries_without_frame = 0;
-        m
+        manager
     }
 }

@@ -1,10 +1,10 @@
 // What the manager counts. Its own seven counts wrap at 2^32; the three of the wire are the parser's.
 ghost use Rattle.std.specs.Prelude.{◌≡◌};
-ghost use Rattle.esc_feedback.specs.Stats.{more, no_stats, wire_renewed};
+ghost use Rattle.esc_feedback.specs.Stats.{no_stats};
 
 use blheli_telemetry::ParserStats;
 
-#[derive(Clone, Copy)]
+#[derive(Clone, Copy, Default)]
 pub struct EscManagerStats {
     pub requests_queued: u32,
     pub requests_started: u32,
@@ -22,32 +22,6 @@ impl EscManagerStats {
     pub fn new() -> Self
         ensures { result ≡ no_stats }
     {
-        let wire = ParserStats::new();
-        Self {
-            requests_queued: 0,
-            requests_started: 0,
-            actuator_ack_timeouts: 0,
-            telemetry_response_timeouts: 0,
-            mismatched_acks: 0,
-            unsolicited_frames: 0,
-            recoveries: 0,
-            wire,
-        }
+        Self::default()
     }
-
-    // The counts with the parser's renewed.
-    pub fn with_wire(self, wire: ParserStats) -> EscManagerStats
-        ensures { result ≡ wire_renewed self wire }
-    {
-        let mut stats = self;
-        stats.wire = wire;
-        stats
-    }
-}
-
-// A count and one more. The manager's own wrap; only the parser's saturate.
-pub fn one_more(count: u32) -> u32
-    ensures { result ≡ more count }
-{
-    std::num::wrapping_add_u32(count, 1)
 }

@@ -1,7 +1,5 @@
 -- Document 01's cases for the idle check, computed by its own definitions.
-use mathlib.Core.Path.{◌≡◌, refl}
-use mathlib.Core.Bool.{true, false}
-use Prim.Native.Nat.{ℕ}
+use Rattle.std.proofs.Common.{◌≡◌, ℕ, true, false, Some, refl}
 use Rattle.base.specs.Due.{due}
 use Rattle.esc_idle.specs.IdleConfig.{valid_settings, dshot_settings}
 use Rattle.esc_idle.specs.IdleLane.{count_lane, newest_expired, expire_lane, expire_lanes, every_enough}
@@ -9,7 +7,6 @@ use Rattle.esc_idle.specs.Idle.{new_idle, weighed, status_of, measured, observe_
 use Rattle.esc_lanes.specs.declared.output.EscOutput.{EscOutput}
 use Rattle.esc_lanes.specs.declared.output.Lane.TheVariants.{Output1}
 use Rattle.esc_lanes.specs.declared.request.EscTelemetryUpdate.{EscTelemetryUpdate}
-use Rattle.esc_idle.specs.declared.idle_lane.Newest.TheVariants.{At}
 use Rattle.esc_idle.specs.declared.idle_verdict.EscIdleQualificationFailure.TheVariants.{Overspeed}
 use Rattle.esc_idle.specs.declared.idle_verdict.EscIdleQualificationStatus.{EscIdleQualificationStatus}
 use Rattle.esc_idle.specs.declared.idle_verdict.EscIdleQualificationStatus.TheVariants.{Pending, Failed}
@@ -36,10 +33,10 @@ answer erpm = (observe_of (new_idle dshot_settings 0) (sample erpm) 250).status
 
 pub record IdleCases : Type 0 where
   -- age 200 with limit 200 fresh, 201 not
-  pub fresh : newest_expired 200 200 (At 0) ≡ false
-  pub stale : newest_expired 200 201 (At 0) ≡ true
+  pub fresh : newest_expired 200 200 (Some 0) ≡ false
+  pub stale : newest_expired 200 201 (Some 0) ≡ true
   -- age 4294967295 with limit 4294967295 expires
-  pub oldest : newest_expired 4294967295 4294967295 (At 0) ≡ true
+  pub oldest : newest_expired 4294967295 4294967295 (Some 0) ≡ true
   -- max 100: 100 passes, 101 fails
   pub passes : answer 100 ≡ Pending
   pub fails : answer 101 ≡ Failed (Overspeed lane0 101)

@@ -1,8 +1,4 @@
--- Read in this order: the settings; one lane, case by case; a pass over a list and the code's two loops; the calls, case by case; document
--- 01's cases.
+-- Read in this order: the settings; a verdict that stands; document 01's cases.
 pub mod IdleConfigLaws
-pub mod IdleLaneLaws
-pub mod IdlePass
-pub mod IdleLoops
 pub mod IdleLaws
 pub mod IdleCases

@@ -1,16 +1,15 @@
 -- One lane of the idle check, and the passes over all lanes (document 01, 'Idle check').
-use Rattle.std.specs.Prelude.{ℕ, ◌+◌, min, Bool, true, false, ◌&&◌, List, [], ◌∷◌, map, leb, ltb, get_or}
+use Rattle.std.specs.Prelude.{ℕ, ◌+◌, min, Bool, false, List, map, leb, ltb, Option, Some, None}
+use Rattle.std.specs.List.{list_all}
 use Rattle.base.specs.Choice.{pick}
 use Rattle.base.specs.Saturated.{saturated}
 use Rattle.base.specs.Due.{due}
 use Rattle.esc_lanes.specs.declared.request.EscTelemetryObservation.{EscTelemetryObservation}
-use Rattle.esc_idle.specs.declared.idle_lane.Newest.{Newest}
-use Rattle.esc_idle.specs.declared.idle_lane.Newest.TheVariants.{None, At}
 use Rattle.esc_idle.specs.declared.idle_lane.IdleLane.{IdleLane}
 
 -- a lane with nothing counted
 abbrev pub clear_lane : IdleLane
-clear_lane = record { consecutive_samples = 0; newest = None }
+clear_lane = record { consecutive_samples = 0; newest_ms = None }
 
 -- one more, saturating at 255
 abbrev pub count_up : ℕ → ℕ
@@ -21,16 +20,16 @@ unfoldable pub count_lane : ℕ → EscTelemetryObservation → IdleLane → Idl
 count_lane least o l =
     pick (ltb o.sample.erpm_div100 least)
     clear_lane
-    (record { consecutive_samples = count_up l.consecutive_samples; newest = At o.observed_at_ms })
+    (record { consecutive_samples = count_up l.consecutive_samples; newest_ms = Some o.observed_at_ms })
 
 -- a newest has expired: Due(its observed time, now, age + 1), the sum saturating at 2^32 − 1
-unfoldable pub newest_expired : ℕ → ℕ → Newest → Bool
+unfoldable pub newest_expired : ℕ → ℕ → Option ℕ → Bool
 newest_expired age now None = false
-newest_expired age now (At observed) = due observed now (saturated age)
+newest_expired age now (Some observed) = due observed now (saturated age)
 
 -- a lane whose newest has expired is cleared
 unfoldable pub expire_lane : ℕ → ℕ → IdleLane → IdleLane
-expire_lane age now l = pick (newest_expired age now l.newest) clear_lane l
+expire_lane age now l = pick (newest_expired age now l.newest_ms) clear_lane l
 
 -- and so with every lane
 unfoldable pub expire_lanes : ℕ → ℕ → List IdleLane → List IdleLane
@@ -42,9 +41,4 @@ enough required l = leb required l.consecutive_samples
 
 -- every count is at least required
 unfoldable pub every_enough : ℕ → List IdleLane → Bool
-every_enough required [] = true
-every_enough required (l ∷ ls) = enough required l && every_enough required ls
-
--- the count of lane k
-abbrev pub count_of : List IdleLane → ℕ → ℕ
-count_of ls k = (get_or ls k clear_lane).consecutive_samples
+every_enough required ls = list_all (enough required) ls

@@ -1,13 +1,12 @@
 // The idle check: every motor turns within limits, steadily, before arming goes on. A terminal
 // verdict stays.
 ghost use Rattle.std.specs.Prelude.{◌≡◌};
-ghost use Rattle.esc_idle.specs.Idle.{standing, new_idle, observe_of, status_of, counts_of, measured, sampled, fresh_at, weighed, decided};
+ghost use Rattle.esc_idle.specs.IdleLane.{every_enough};
+ghost use Rattle.esc_idle.specs.Idle.{standing, new_idle, observe_of, status_of, counts_of, measured, sampled, fresh_at, weighed, saying, decided};
 
 use crate::idle_config::EscIdleQualificationConfig;
-use crate::idle_lane::{IdleLane, every_lane_has, expire_lanes};
-use crate::idle_verdict::{
-    EscIdleQualificationFailure, EscIdleQualificationStatus, IdleVerdict, Terminal,
-};
+use crate::idle_lane::IdleLane;
+use crate::idle_verdict::{EscIdleQualificationFailure, EscIdleQualificationStatus};
 use base::elapsed_at_least;
 use esc_lanes::EscTelemetryUpdate;
 
@@ -16,7 +15,8 @@ pub struct EscIdleQualification {
     config: EscIdleQualificationConfig,
     started_at_ms: u64,
     lanes: [IdleLane; 4],
-    verdict: IdleVerdict,
+    // The terminal answer, once there is one.
+    verdict: Option<EscIdleQualificationStatus>,
 }
 
 // The check after a call, and the call's answer.
@@ -31,93 +31,72 @@ impl EscIdleQualification {
     pub fn new(config: EscIdleQualificationConfig, started_at_ms: u64) -> Self
         ensures { result ≡ new_idle config started_at_ms }
     {
-        let lane = IdleLane::clear();
-        let lanes = [lane; 4];
-        let verdict = IdleVerdict {
-            terminal: Terminal::None,
-        };
         Self {
             config,
             started_at_ms,
-            lanes,
-            verdict,
+            lanes: [IdleLane::clear(); 4],
+            verdict: None,
         }
     }
 
     // A delivered sample: counted or ignored, and judged.
+    #[tactic(auto, unfolding(crate::specs::Idle::observe_of))]
     pub fn observe(self, update: EscTelemetryUpdate, now_ms: u64) -> EscIdleJudged
         ensures { result ≡ observe_of self update now_ms }
     {
-        let standing = self.standing();
-        if let Terminal::Some(status) = standing {
-            return self.decide(status);
+        let grace_ms = self.config.spinup_grace_ms;
+        match self.standing() {
+            Some(status) => self.decide(status),
+            None if elapsed_at_least(self.started_at_ms, now_ms, grace_ms) => {
+                self.measured(update, now_ms)
+            }
+            None => self.pending(),
         }
-        if !elapsed_at_least(self.started_at_ms, now_ms, self.config.spinup_grace_ms) {
-            return EscIdleJudged {
-                idle: self,
-                status: EscIdleQualificationStatus::Pending,
-            };
-        }
-        self.measured(update, now_ms)
     }
 
     // 0b: the verdict at a time, with no new sample.
+    #[tactic(auto, unfolding(crate::specs::Idle::status_of))]
     pub fn status(self, now_ms: u64) -> EscIdleJudged
         ensures { result ≡ status_of self now_ms }
     {
-        let standing = self.standing();
-        if let Terminal::Some(status) = standing {
-            return self.decide(status);
+        match self.standing() {
+            Some(status) => self.decide(status),
+            None => self.fresh_at(now_ms).weighed(now_ms),
         }
-        let idle = self.fresh_at(now_ms);
-        idle.weighed(now_ms)
     }
 
     // How many samples in a row each lane has within limits.
     pub fn consecutive_samples(self) -> [u8; 4]
         ensures { result ≡ counts_of self.lanes }
     {
-        let lanes = self.lanes;
-        [
-            lanes[0].consecutive_samples,
-            lanes[1].consecutive_samples,
-            lanes[2].consecutive_samples,
-            lanes[3].consecutive_samples,
-        ]
+        self.lanes.map(|lane| lane.consecutive_samples)
     }
 
     // The verdict that stands whatever comes: a terminal one stays, and invalid settings fail first.
-    fn standing(self) -> Terminal
-        ensures { result ≡ standing self self.verdict.terminal }
+    fn standing(self) -> Option<EscIdleQualificationStatus>
+        ensures { result ≡ standing self self.verdict }
     {
-        let verdict = self.verdict;
-        let terminal = verdict.terminal;
-        if let Terminal::Some(status) = terminal {
-            return Terminal::Some(status);
+        match self.verdict {
+            None if !self.config.is_valid() => Some(EscIdleQualificationStatus::Failed(
+                EscIdleQualificationFailure::InvalidConfig,
+            )),
+            verdict => verdict,
         }
-        let config = self.config;
-        if config.is_valid() {
-            return Terminal::None;
-        }
-        Terminal::Some(EscIdleQualificationStatus::Failed(
-            EscIdleQualificationFailure::InvalidConfig,
-        ))
     }
 
     // The answer to a sample that is not ignored.
+    #[tactic(auto, unfolding(crate::specs::Idle::measured))]
     fn measured(self, update: EscTelemetryUpdate, now_ms: u64) -> EscIdleJudged
         ensures { result ≡ measured self update now_ms }
     {
         let erpm_div100 = update.observation.sample.erpm_div100;
-        if erpm_div100 > self.config.max_erpm_div100 {
-            let output = update.output;
+        if self.config.max_erpm_div100 < erpm_div100 {
             return self.fail(EscIdleQualificationFailure::Overspeed {
-                output,
+                output: update.output,
                 erpm_div100,
             });
         }
-        let idle = self.sampled(update);
-        idle.status(now_ms)
+        self.sampled(update).status(now_ms)
     }
 
     // The check with the sample counted in its lane.
@@ -125,42 +104,55 @@ impl EscIdleQualification {
         ensures { result ≡ sampled self update }
     {
         let mut idle = self;
-        let output = update.output;
-        let i = output.index();
-        let old = idle.lanes[i];
-        let observation = update.observation;
-        let lane = old.counted(self.config.min_erpm_div100, observation);
-        idle.lanes[i] = lane;
+        let lane = update.output.index();
+        idle.lanes[lane] = self.lanes[lane].counted(
+            self.config.min_erpm_div100,
+            update.observation,
+        );
         idle
     }
 
     // The check with every expired lane cleared.
+    #[tactic(auto, unfolding(crate::specs::IdleLane::expire_lanes))]
     fn fresh_at(self, now_ms: u64) -> EscIdleQualification
         ensures { result ≡ fresh_at self now_ms }
     {
-        let mut idle = self;
-        let lanes = self.lanes;
-        let fresh = expire_lanes(lanes, self.config.max_sample_age_ms, now_ms);
-        idle.lanes = fresh;
-        idle
+        Self {
+            lanes: self
+                .lanes
+                .map(|lane| lane.expire(self.config.max_sample_age_ms, now_ms)),
+            ..self
+        }
     }
 
     // The answer that the counts give. Enough samples qualify even at the timeout itself.
+    #[tactic(auto, unfolding(crate::specs::Idle::weighed))]
     fn weighed(self, now_ms: u64) -> EscIdleJudged
         ensures { result ≡ weighed self now_ms }
     {
-        let lanes = self.lanes;
-        if every_lane_has(lanes, self.config.required_consecutive_samples) {
+        if self.every_lane_has_enough() {
             return self.decide(EscIdleQualificationStatus::Qualified);
         }
         if elapsed_at_least(self.started_at_ms, now_ms, self.config.timeout_ms) {
             return self.fail(EscIdleQualificationFailure::Timeout {
-                output1: lanes[0].consecutive_samples,
-                output2: lanes[1].consecutive_samples,
-                output3: lanes[2].consecutive_samples,
-                output4: lanes[3].consecutive_samples,
+                consecutive_samples: self.consecutive_samples(),
             });
         }
+        self.pending()
+    }
+
+    #[tactic(auto, unfolding(crate::specs::IdleLane::every_enough))]
+    fn every_lane_has_enough(self) -> bool
+        ensures { result ≡ every_enough self.config.required_consecutive_samples self.lanes }
+    {
+        let required = self.config.required_consecutive_samples;
+        self.lanes.iter().all(|lane| lane.has(required))
+    }
+
+    // No verdict yet.
+    fn pending(self) -> EscIdleJudged
+        ensures { result ≡ saying self EscIdleQualificationStatus.Pending }
+    {
         EscIdleJudged {
             idle: self,
             status: EscIdleQualificationStatus::Pending,
@@ -177,11 +169,12 @@ impl EscIdleQualification {
     fn decide(self, status: EscIdleQualificationStatus) -> EscIdleJudged
         ensures { result ≡ decided self status }
     {
-        let mut idle = self;
-        let verdict = IdleVerdict {
-            terminal: Terminal::Some(status),
-        };
-        idle.verdict = verdict;
-        EscIdleJudged { idle, status }
+        EscIdleJudged {
+            idle: Self {
+                verdict: Some(status),
+                ..self
+            },
+            status,
+        }
     }
 }

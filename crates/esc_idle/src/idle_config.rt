@@ -14,22 +14,15 @@ pub struct EscIdleQualificationConfig {
 
 impl EscIdleQualificationConfig {
     // Settings under which no motor could qualify, or any would, are refused by a verdict.
+    #[tactic(auto, unfolding(crate::specs::IdleConfig::valid_settings))]
     pub fn is_valid(self) -> bool
         ensures { result ≡ valid_settings self }
     {
-        if self.min_erpm_div100 == 0 {
-            return false;
-        }
-        if self.max_erpm_div100 <= self.min_erpm_div100 {
-            return false;
-        }
-        if self.timeout_ms <= self.spinup_grace_ms {
-            return false;
-        }
-        if self.max_sample_age_ms == 0 {
-            return false;
-        }
-        self.required_consecutive_samples > 0
+        self.min_erpm_div100 > 0
+            && self.min_erpm_div100 < self.max_erpm_div100
+            && self.spinup_grace_ms < self.timeout_ms
+            && self.max_sample_age_ms > 0
+            && self.required_consecutive_samples > 0
     }
 }
 

@@ -1,2 +1,2 @@
--- Laws of 01 to 05 and 07; every other kind is opened beside its function.
+-- Laws of 01 to 05; every other kind is opened by its function.
 pub mod StepLaws

@@ -1,21 +1,20 @@
--- The step of 03, 05 and 07, whose answer decides what becomes of the books, and of 01, 02 and 04, which a loop over lines answers itself.
+-- The step of 03 and 05, whose answer decides what becomes of the books, and of 01, 02 and 04, which a loop over lines answers itself.
 use mathlib.Core.Path.{◌≡◌, refl, ap}
-use mathlib.Core.Bool.{Bool}
 use Prim.Native.Nat.{ℕ}
 use Rattle.esc_feedback.specs.Queueing.{next_request, mark_queued}
 use Rattle.esc_feedback.specs.Ack.{on_ack}
 use Rattle.esc_feedback.specs.Timeout.{poll_timeout}
 use Rattle.esc_feedback.specs.Wire.{push_wire}
-use Rattle.esc_feedback.specs.Recovery.{try_recover}
 use Rattle.esc_lanes.specs.declared.request.EscActuatorRequest.{EscActuatorRequest}
 use Rattle.esc_lanes.specs.declared.request.EscActuatorAck.{EscActuatorAck}
 use Rattle.esc_feedback.specs.declared.answer.EscAckOutcome.{EscAckOutcome}
-use Rattle.esc_feedback.specs.declared.answer.WireUpdate.{WireUpdate}
+use Rattle.esc_lanes.specs.declared.request.EscTelemetryUpdate.{EscTelemetryUpdate}
+use Rattle.std.specs.Prelude.{Option}
 use Rattle.esc_feedback.specs.declared.manager.EscManager.{EscManager}
 use Rattle.esc_books.specs.declared.books.Books.{Books}
 use Rattle.esc_records.specs.declared.record.Record.TheVariants as kind
 use Rattle.esc_answers.specs.declared.answer.Answer.TheVariants as answer
-use Rattle.esc_kinds.specs.Step.{stepped, acked_on, wire_stepped, recovered_on, step_of}
+use Rattle.esc_kinds.specs.Step.{stepped, acked_on, wire_stepped, step_of}
 
 module _ (m : EscManager) (b : Books) (now : ℕ) where
   pub step-next : step_of m b (kind.NextRequest now) ≡ stepped m b (answer.Request (next_request m now))
@@ -36,12 +35,7 @@ module _ (m : EscManager) (b : Books) (now : ℕ) where
   unfolding step_of
   step-poll = refl
 
-  pub step-byte : (x : ℕ) (w : WireUpdate) → (push_wire m x now).answer ≡ w
+  pub step-byte : (x : ℕ) (w : Option EscTelemetryUpdate) → (push_wire m x now).answer ≡ w
       → step_of m b (kind.WireByte x now) ≡ wire_stepped (push_wire m x now).manager b now w
   unfolding step_of
   step-byte x w e = ap (wire_stepped (push_wire m x now).manager b now) e
-
-  pub step-recovery : (armed said : Bool) → (try_recover m now armed).answer ≡ said
-      → step_of m b (kind.TryRecover armed now) ≡ recovered_on (try_recover m now armed).manager b said
-  unfolding step_of
-  step-recovery armed said e = ap (recovered_on (try_recover m now armed).manager b) e

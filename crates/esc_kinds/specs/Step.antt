@@ -1,6 +1,6 @@
 -- What each record does to the manager and the books, and its answer (document 01, 'Records').
-use Rattle.std.specs.Prelude.{ℕ, Bool, true, false, not, eqb}
-use Rattle.esc_feedback.specs.Manager.{new_manager, take_back}
+use Rattle.std.specs.Prelude.{ℕ, Bool, true, false, not, eqb, Option, Some, None}
+use Rattle.esc_feedback.specs.Manager.{new_manager, is_faulted, take_back}
 use Rattle.esc_feedback.specs.Queueing.{next_request, mark_queued}
 use Rattle.esc_feedback.specs.Ack.{on_ack}
 use Rattle.esc_feedback.specs.Timeout.{poll_timeout}
@@ -9,15 +9,12 @@ use Rattle.esc_feedback.specs.Recovery.{try_recover}
 use Rattle.esc_lanes.specs.declared.request.EscTelemetryUpdate.{EscTelemetryUpdate}
 use Rattle.esc_feedback.specs.declared.answer.EscAckOutcome.{EscAckOutcome}
 use Rattle.esc_feedback.specs.declared.answer.EscAckOutcome.TheVariants as outcome
-use Rattle.esc_feedback.specs.declared.answer.WireUpdate.{WireUpdate}
-use Rattle.esc_feedback.specs.declared.answer.WireUpdate.TheVariants as update
 use Rattle.esc_feedback.specs.declared.manager.EscManager.{EscManager}
 use Rattle.esc_books.specs.Figures.{figure_at}
 use Rattle.esc_books.specs.Books.{no_books, checked_by, samples_dropped, booked_in, idle_status, stored_at}
 use Rattle.esc_records.specs.declared.record.Record.{Record}
 use Rattle.esc_records.specs.declared.record.Record.TheVariants as kind
 use Rattle.esc_answers.specs.declared.answer.AckAnswer.TheVariants as ack
-use Rattle.esc_answers.specs.declared.answer.WireAnswer.TheVariants as wire
 use Rattle.esc_answers.specs.declared.answer.UnitReport.{UnitReport}
 use Rattle.esc_answers.specs.declared.answer.Answer.{Answer}
 use Rattle.esc_answers.specs.declared.answer.Answer.TheVariants as answer
@@ -36,23 +33,23 @@ abbrev ack_sample : EscTelemetryUpdate → Booked → Answer
 ack_sample u k = answer.Ack (ack.Sample (record { update = u; status = k.status }))
 
 abbrev wire_sample : EscTelemetryUpdate → Booked → Answer
-wire_sample u k = answer.Wire (wire.Sample (record { update = u; status = k.status }))
+wire_sample u k = answer.Wire (Some (record { update = u; status = k.status }))
 
 abbrev pub acked_on : EscManager → Books → ℕ → EscAckOutcome → Stepped
 acked_on m b now outcome.Rejected = stepped m b (answer.Ack ack.Rejected)
 acked_on m b now outcome.Accepted = stepped m b (answer.Ack ack.Accepted)
 acked_on m b now (outcome.Sample u) = booked_step ack_sample m b u now
 
-abbrev pub wire_stepped : EscManager → Books → ℕ → WireUpdate → Stepped
-wire_stepped m b now update.None = stepped m b (answer.Wire wire.None)
-wire_stepped m b now (update.Some u) = booked_step wire_sample m b u now
+abbrev pub wire_stepped : EscManager → Books → ℕ → Option EscTelemetryUpdate → Stepped
+wire_stepped m b now None = stepped m b (answer.Wire None)
+wire_stepped m b now (Some u) = booked_step wire_sample m b u now
 
 abbrev pub recovered_on : EscManager → Books → Bool → Stepped
 recovered_on m b true = stepped m (samples_dropped b) (answer.Decided true)
 recovered_on m b false = stepped m b (answer.Decided false)
 
 abbrev pub report_of : EscManager → UnitReport
-report_of m = record { faulted = m.fault.faulted; retrying = not (eqb m.fault.retries_without_frame 0); stats = m.stats }
+report_of m = record { faulted = is_faulted m; retrying = not (eqb m.fault.retries_without_frame 0); stats = m.stats }
 
 -- what each kind of record does, 00 to 0e; 00 starts everything anew
 unfoldable pub step_of : EscManager → Books → Record → Stepped

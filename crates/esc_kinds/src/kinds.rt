@@ -23,6 +23,7 @@ pub struct Stepped {
 }
 
 // The step of a record of any kind, 00 to 0e, from the manager and the books that the record before left.
+#[tactic(auto, unfolding(crate::specs::Step::step_of))]
 pub fn step(manager: EscManager, books: Books, record: Record) -> Stepped
     ensures { result ≡ step_of manager books «record» }
 {
@@ -64,8 +65,11 @@ pub fn step(manager: EscManager, books: Books, record: Record) -> Stepped
 fn start_anew(config: EscManagerConfig, boot_started_ms: u64) -> Stepped
     ensures { result ≡ stepped (new_manager config boot_started_ms) no_books Answer.Done }
 {
-    let manager = EscManager::new(config, boot_started_ms);
-    answered(manager, Books::new(), Answer::Done)
+    answered(
+        EscManager::new(config, boot_started_ms),
+        Books::new(),
+        Answer::Done,
+    )
 }
 
 fn answered(manager: EscManager, books: Books, answer: Answer) -> Stepped

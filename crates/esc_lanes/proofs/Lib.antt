@@ -1,2 +1,3 @@
--- Laws on lanes.
+-- Laws on lanes and requests.
 pub mod OutputLaws
+pub mod RequestLaws

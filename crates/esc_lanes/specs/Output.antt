@@ -1,6 +1,8 @@
 -- The output lanes 0 to 3, and their turn: the fixed order of `EscOutput::ALL`, which is written out here again so that a wrong
 -- order in the constant is refused.
-use Rattle.std.specs.Prelude.{ℕ, Bool, List, [], ◌∷◌, eqb, get_or}
+use Rattle.std.specs.Prelude.{ℕ, Bool, List, [], ◌∷◌, eqb, nat_le, get_or}
+use Rattle.base.specs.Choice.{pick}
+use Rattle.base.specs.Reply.{Reply, accepted, refused}
 use Rattle.esc_lanes.specs.declared.output.Lane.{Lane}
 use Rattle.esc_lanes.specs.declared.output.Lane.TheVariants.{Output1, Output2, Output3, Output4}
 use Rattle.esc_lanes.specs.declared.output.EscOutput.{EscOutput}
@@ -33,3 +35,7 @@ next_output o = record { 0 = lane_after o.0 }
 
 abbrev pub same_output : EscOutput → EscOutput → Bool
 same_output a b = eqb (lane_of a) (lane_of b)
+
+-- the lane of a byte; 6 above 3
+unfoldable pub read_lane : ℕ → Reply EscOutput
+read_lane lane = pick (nat_le lane 3) (accepted (output_at lane)) (refused 6)

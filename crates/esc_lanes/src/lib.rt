@@ -10,4 +10,4 @@ pub use output::{EscOutput, Lane};
 pub use request::{
     EscActuatorAck, EscActuatorRequest, EscTelemetryObservation, EscTelemetryUpdate,
 };
-pub use samples::{EscSamples, StoredObservation};
+pub use samples::EscSamples;

@@ -1,9 +1,12 @@
 // A physical motor output. It is no airframe motor number: the board map alone turns one into the
 // other.
 ghost use Rattle.std.specs.Prelude.{◌≡◌};
-ghost use Rattle.esc_lanes.specs.Output.{lane_of, output_at, next_output, same_output};
+ghost use Rattle.base.specs.Reply.{replied};
+ghost use Rattle.esc_lanes.specs.Output.{lane_of, output_at, next_output, read_lane};
 
-#[derive(Clone, Copy)]
+use base::Refusal;
+
+#[derive(Clone, Copy, PartialEq, Eq)]
 pub enum Lane {
     Output1,
     Output2,
@@ -11,7 +14,7 @@ pub enum Lane {
     Output4,
 }
 
-#[derive(Clone, Copy)]
+#[derive(Clone, Copy, PartialEq, Eq)]
 pub struct EscOutput(pub Lane);
 
 impl EscOutput {
@@ -27,8 +30,7 @@ impl EscOutput {
     pub fn index(self) -> usize
         ensures { result ≡ lane_of self }
     {
-        let lane = self.0;
-        match lane {
+        match self.0 {
             Lane::Output1 => 0,
             Lane::Output2 => 1,
             Lane::Output3 => 2,
@@ -40,11 +42,10 @@ impl EscOutput {
     pub fn of_index(index: usize) -> EscOutput
         ensures { result ≡ output_at index }
     {
-        let all = EscOutput::ALL;
-        if index < 4 {
-            return all[index];
-        }
-        all[0]
+        EscOutput::ALL
+            .get(index)
+            .copied()
+            .unwrap_or(EscOutput::ALL[0])
     }
 
     // The output whose turn comes after this one's: the next in `ALL`, and after the last the first.
@@ -53,11 +54,19 @@ impl EscOutput {
     {
         EscOutput::of_index(self.index() + 1)
     }
+}
 
-    // Whether two outputs are the same lane.
-    pub fn same(self, other: EscOutput) -> bool
-        ensures { result ≡ same_output self other }
-    {
-        self.index() == other.index()
+// A lane's number, or 6 above 3.
+impl TryFrom<u8> for EscOutput {
+    type Error = Refusal;
+
+    ghost try_from_gives = { λ lane read. replied read ≡ read_lane lane };
+
+    #[tactic(auto, unfolding(crate::specs::Output::read_lane))]
+    fn try_from(lane: u8) -> Result<EscOutput, Refusal> {
+        if lane > 3 {
+            return Err(Refusal::Lane);
+        }
+        Ok(EscOutput::of_index(usize::from(lane)))
     }
 }

@@ -1,11 +1,11 @@
 // What passes between the manager, the actuator and the wire.
 ghost use Rattle.std.specs.Prelude.{◌≡◌};
-ghost use Rattle.esc_lanes.specs.Request.{same_request, observation_of, update_of};
+ghost use Rattle.esc_lanes.specs.Request.{observation_of, update_of};
 
 use crate::output::EscOutput;
 use blheli_telemetry::EscTelemetry;
 
-#[derive(Clone, Copy)]
+#[derive(Clone, Copy, PartialEq, Eq)]
 pub struct EscActuatorRequest {
     pub sequence: u32,
     pub output: EscOutput,
@@ -31,31 +31,17 @@ pub struct EscTelemetryUpdate {
 }
 
 impl EscActuatorRequest {
-    // Whether both are one request: same sequence and lane.
-    pub fn same(self, other: EscActuatorRequest) -> bool
-        ensures { result ≡ same_request self other }
-    {
-        if self.sequence != other.sequence {
-            return false;
-        }
-        let output = self.output;
-        let named = other.output;
-        output.same(named)
-    }
-
     // This request's sample: observed when the last byte of its frame came.
     pub fn answered(self, sample: EscTelemetry, observed_at_ms: u64) -> EscTelemetryUpdate
         ensures { result ≡ update_of self (observation_of self sample observed_at_ms) }
     {
-        let output = self.output;
-        let observation = EscTelemetryObservation {
-            sample,
-            observed_at_ms,
-            request_sequence: self.sequence,
-        };
         EscTelemetryUpdate {
-            output,
-            observation,
+            output: self.output,
+            observation: EscTelemetryObservation {
+                sample,
+                observed_at_ms,
+                request_sequence: self.sequence,
+            },
         }
     }
 }

@@ -9,19 +9,8 @@ use crate::output::EscOutput;
 use crate::request::{EscTelemetryObservation, EscTelemetryUpdate};
 
 #[derive(Clone, Copy)]
-pub enum StoredObservation {
-    None,
-    Some(EscTelemetryObservation),
-}
-
-#[derive(Clone, Copy)]
-pub struct Slot {
-    pub held: StoredObservation,
-}
-
-#[derive(Clone, Copy)]
 pub struct EscSamples {
-    slots: [Slot; 4],
+    lanes: [Option<EscTelemetryObservation>; 4],
 }
 
 impl EscSamples {
@@ -29,11 +18,7 @@ impl EscSamples {
     pub fn new() -> Self
         ensures { result ≡ no_samples }
     {
-        let slot = Slot {
-            held: StoredObservation::None,
-        };
-        let slots = [slot; 4];
-        Self { slots }
+        Self { lanes: [None; 4] }
     }
 
     // The samples with a delivered one in its lane's place.
@@ -41,22 +26,14 @@ impl EscSamples {
         ensures { result ≡ stored_in self update }
     {
         let mut samples = self;
-        let output = update.output;
-        let observation = update.observation;
-        let slot = Slot {
-            held: StoredObservation::Some(observation),
-        };
-        let i = output.index();
-        samples.slots[i] = slot;
+        samples.lanes[update.output.index()] = Some(update.observation);
         samples
     }
 
     // What a lane delivered last.
-    pub fn at(self, output: EscOutput) -> StoredObservation
+    pub fn at(self, output: EscOutput) -> Option<EscTelemetryObservation>
         ensures { result ≡ sample_at self output }
     {
-        let i = output.index();
-        let slot = self.slots[i];
-        slot.held
+        self.lanes[output.index()]
     }
 }

@@ -1,67 +1,39 @@
--- Reading a record: one law for each number that refuses it, and one for the record that is read.
-use mathlib.Core.Path.{◌≡◌, refl}
-use mathlib.Core.Bool.{Bool, true, false}
-use mathlib.Core.List.{List, [], ◌∷◌}
-use Prim.Native.Nat.{ℕ, ◌<◌, ◌≤◌}
-use native.Mathlib.Omega.{arith}
-use lib.Dec.{eqb, eqb→eq}
-use lib.ListN.{length, get_or, replicate}
-use borrow.Author.Tests.{eq-eqb, ne_eqb, le-leb, lt-leb}
+-- Reading a record, by tests that need not look into the list; and the record of a kind whose bytes are as many as it has.
+use Rattle.std.proofs.Common.{◌≡◌, ℕ, ◌<◌, Bool, true, eqb, ltb, leb, List, [], ◌∷◌, length, get_or, replicate, refl, arith, leb→le, zero-lt-suc}
+use borrow.Author.Tests.{eq-eqb, le-leb, lt-ltb}
 use Rattle.base.specs.Choice.{pick}
-use Rattle.base.specs.Reply.{accepted, refused}
+use Rattle.base.specs.Reply.{Reply, accepted, refused}
 use Rattle.base.proofs.Table.{at}
-use Rattle.esc_records.specs.Record.{width_of, lane_place, known_kind, lane_fits, flag_fits, record_of, read_record, last_kind}
+use Rattle.esc_records.specs.Record.{width_of, lane_fits, flag_fits, record_of, read_record, last_kind}
 use Rattle.esc_records.specs.Whole.{Whole}
-use Rattle.esc_records.proofs.LayoutLaws.{ends_at}
+use Rattle.esc_records.specs.declared.record.Record.{Record}
 
--- the kinds that have no lane
-laneless : ℕ → ℕ → Bool
-laneless k _ = pick (eqb k 0x02) true (pick (eqb k 0x03) true (pick (eqb k 0x0d) true (pick (eqb k 0x0e) true (eqb (lane_place k) 0))))
+-- each kind has a byte at least
+some : ℕ → ℕ → Bool
+some k _ = leb 1 (width_of k)
 
-pub no-lane : (k : ℕ) → k ≤ last_kind → (k ≡ 0x02 → ⊥) → (k ≡ 0x03 → ⊥) → (k ≡ 0x0d → ⊥) → (k ≡ 0x0e → ⊥) → lane_place k ≡ 0
-unfolding laneless
-no-lane k h a b c d = eqb→eq _ 0 (rw (ne_eqb _ _ a, ne_eqb _ _ b, ne_eqb _ _ c, ne_eqb _ _ d) at (at laneless (replicate 15 0) tt k (omega arith)))
+whole-some : (s : List ℕ) → Whole s → 0 < length s
+unfolding some
+whole-some s w = omega (arith, w.width, leb→le 1 _ (at some (replicate 15 0) tt (get_or s 0 0) (omega (arith, w.known))))
 
--- the one kind without fields that comes after them
-pub else-report : (k : ℕ) → 0x0c ≤ k → k ≤ last_kind → (k ≡ 0x0d → ⊥) → (k ≡ 0x0e → ⊥) → k ≡ 0x0c
-else-report k l h a b = omega arith
+-- what is read of a record whose kind and length are right
+unfoldable pub whole_reply : List ℕ → Reply Record
+whole_reply s = pick (lane_fits s) (pick (flag_fits s) (accepted (record_of s)) (refused 7)) (refused 6)
 
-empty-unknown : (s : List ℕ) → length s ≡ 0 → known_kind s ≡ false
-empty-unknown [] h = refl
-empty-unknown (k ∷ s) h = absurd (omega arith)
+-- that the record is not empty, its kind, its length
+pub read_tests : (s : List ℕ) → read_record s
+    ≡ pick (ltb 0 (length s))
+    (pick (leb (get_or s 0 0) last_kind)
+    (pick (eqb (length s) (width_of (get_or s 0 0))) (whole_reply s) (refused 5))
+    (refused 4))
+    (refused 4)
+unfolding whole_reply read_record
+read_tests [] = refl
+read_tests (k ∷ s) = rw (lt-ltb _ _ (zero-lt-suc (length s)))
 
-above-unknown : (s : List ℕ) → last_kind < get_or s 0 0 → known_kind s ≡ false
-above-unknown [] h = absurd (omega arith)
-above-unknown (k ∷ s) h = lt-leb _ _ h
+pub whole_read : (s : List ℕ) → Whole s → read_record s ≡ whole_reply s
+whole_read s w = rw (read_tests s, lt-ltb _ _ (whole-some s w), le-leb _ _ w.known, eq-eqb _ _ w.width)
 
-known : (s : List ℕ) → 0 < length s → get_or s 0 0 ≤ last_kind → known_kind s ≡ true
-known [] l h = absurd (omega arith)
-known (k ∷ s) l h = le-leb _ _ h
-
-whole-known : (s : List ℕ) → Whole s → known_kind s ≡ true
-whole-known s w = known s (omega (arith, w.width, ends_at (get_or s 0 0) w.known)) w.known
-
-module _ (s : List ℕ) where
-  pub read-empty : length s ≡ 0 → read_record s ≡ refused 4
-  unfolding read_record
-  read-empty h = rw (empty-unknown s h)
-
-  pub read-kind : last_kind < get_or s 0 0 → read_record s ≡ refused 4
-  unfolding read_record
-  read-kind h = rw (above-unknown s h)
-
-  pub read_length : 0 < length s → get_or s 0 0 ≤ last_kind → (length s ≡ width_of (get_or s 0 0) → ⊥) → read_record s ≡ refused 5
-  unfolding read_record
-  read_length l h n = rw (known s l h, ne_eqb _ _ n)
-
-  pub read-lane : Whole s → lane_fits s ≡ false → read_record s ≡ refused 6
-  unfolding read_record
-  read-lane w e = rw (whole-known s w, eq-eqb _ _ w.width, e)
-
-  pub read-flag : Whole s → lane_fits s ≡ true → flag_fits s ≡ false → read_record s ≡ refused 7
-  unfolding read_record
-  read-flag w e f = rw (whole-known s w, eq-eqb _ _ w.width, e, f)
-
-  pub read-accepted : Whole s → lane_fits s ≡ true → flag_fits s ≡ true → read_record s ≡ accepted (record_of s)
-  unfolding read_record
-  read-accepted w e f = rw (whole-known s w, eq-eqb _ _ w.width, e, f)
+pub read-accepted : (s : List ℕ) → Whole s → lane_fits s ≡ true → flag_fits s ≡ true → read_record s ≡ accepted (record_of s)
+unfolding whole_reply
+read-accepted s w e f = rw (whole_read s w, e, f)

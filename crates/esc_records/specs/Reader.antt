@@ -1,8 +1,10 @@
--- A reader of bytes: where it begins, what it asks, and what it finds.
-use Rattle.std.specs.Prelude.{ℕ, ◌+◌, ◌≤◌, ◌<◌, ◌^◌, ◌≡◌, List, leb, length}
+-- A reader of bytes: where it begins, where it stands further on, and the fields that can be refused.
+use Rattle.std.specs.Prelude.{ℕ, ◌+◌, Bool, List, slice_index, eqb, leb}
 use Rattle.std.specs.Borrow.{Bor}
 use Rattle.base.specs.Choice.{pick}
-use Rattle.base.specs.BigEndian.{number_at}
+use Rattle.base.specs.Reply.{Reply, accepted, refused}
+use Rattle.esc_lanes.specs.declared.request.EscActuatorRequest.{EscActuatorRequest}
+use Rattle.esc_records.specs.Record.{request_at}
 use Rattle.esc_records.specs.declared.reader.Reader.{Reader}
 
 -- in front of the first byte
@@ -13,14 +15,10 @@ begun bytes = record { bytes = bytes; at = 0 }
 abbrev pub moved : Reader → ℕ → Reader
 moved r width = record { bytes = r.bytes; at = r.at + width }
 
--- the number, and the place behind it, have 64 bits
-abbrev pub Fits : ℕ → ℕ → Type 0
-Fits at width = (width ≤ 8) × (at + width < 2 ^ 64)
+-- a byte that says no or yes; 7 above 1
+abbrev pub read_flag : ℕ → Reply Bool
+read_flag x = pick (leb x 1) (accepted (eqb x 1)) (refused 7)
 
--- the number in as many bytes from a place on, 0 where the bytes end before
-unfoldable pub number_in : ℕ → List ℕ → ℕ → ℕ
-number_in width s at = pick (leb (at + width) (length s)) (number_at width s at) 0
-
--- the reader afterwards, and the number
-abbrev pub ReadOn : Reader → ℕ → Reader → ℕ → Type 0
-ReadOn r width after n = (after ≡ moved r width) × (n ≡ number_in width r.bytes.now r.at) × (n < 256 ^ width)
+-- S L; 6 where the lane is above 3
+abbrev pub read_request : List ℕ → ℕ → Reply EscActuatorRequest
+read_request s at = pick (leb (slice_index s (at + 4)) 3) (accepted (request_at s at)) (refused 6)

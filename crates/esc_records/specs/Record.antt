@@ -9,8 +9,6 @@ use Rattle.esc_feedback.specs.declared.config.EscManagerConfig.{EscManagerConfig
 use Rattle.esc_idle.specs.declared.idle_config.EscIdleQualificationConfig.{EscIdleQualificationConfig}
 use Rattle.esc_records.specs.declared.record.Record.{Record}
 use Rattle.esc_records.specs.declared.record.Record.TheVariants as kind
-use Rattle.esc_records.specs.declared.record.RecordRead.{RecordRead}
-use Rattle.esc_records.specs.declared.record.RecordRead.TheVariants as read
 
 -- fields: T is a time (8 bytes), S a sequence (4), L a lane (1)
 abbrev pub time_at : List ℕ → ℕ → ℕ
@@ -98,8 +96,3 @@ read_record s =
     (pick (lane_fits s) (pick (flag_fits s) (accepted (record_of s)) (refused 7)) (refused 6))
     (refused 5))
     (refused 4)
-
--- what `read_record` answers
-abbrev pub record_read : RecordRead → Reply Record
-record_read (read.Record r) = accepted r
-record_read (read.Refused n) = refused n

@@ -1,23 +1,21 @@
-// Whether a record is taken: the refusals 4 to 8, in the order of their numbers.
+// Whether a record is taken: the first of its refusals, and then whether the unit was opened.
 ghost use Rattle.std.specs.Prelude.{◌≡◌, ◌||◌};
-ghost use Rattle.esc_records.specs.Record.{record_read};
+ghost use Rattle.base.specs.Reply.{replied};
 ghost use Rattle.esc_records.specs.Admission.{opens, admitted_of};
 
-use crate::record::{Record, RecordRead, read_record};
+use crate::record::{Record, read_record};
+use base::Refusal;
 
 // The record that the bytes stand for, if a unit that was opened, or was not, takes it.
-pub fn admit(opened: bool, bytes: &[u8]) -> RecordRead
-    ensures { record_read result ≡ admitted_of opened bytes.now }
+#[tactic(auto, unfolding(crate::specs::Admission::admitted_of))]
+pub fn admit(opened: bool, bytes: &[u8]) -> Result<Record, Refusal>
+    ensures { replied result ≡ admitted_of opened bytes.now }
 {
-    let read = read_record(bytes);
-    match read {
-        RecordRead::Refused(number) => RecordRead::Refused(number),
-        RecordRead::Record(record) => {
-            if takes(opened, record) {
-                return RecordRead::Record(record);
-            }
-            RecordRead::Refused(8)
-        }
+    let read = read_record(bytes)?;
+    if takes(opened, read) {
+        Ok(read)
+    } else {
+        Err(Refusal::Unopened)
     }
 }
 
@@ -25,22 +23,12 @@ pub fn admit(opened: bool, bytes: &[u8]) -> RecordRead
 pub fn takes(opened: bool, record: Record) -> bool
     ensures { result ≡ (opened || opens «record») }
 {
-    if opened {
-        return true;
-    }
-    opens(record)
+    opened || opens(record)
 }
 
 // Whether it is a 00.
 fn opens(record: Record) -> bool
     ensures { result ≡ opens «record» }
 {
-    if let Record::Open {
-        config: _,
-        boot_started_ms: _,
-    } = record
-    {
-        return true;
-    }
-    false
+    matches!(record, Record::Open { .. })
 }

@@ -2,9 +2,8 @@
 #![tactic(auto)]
 
 mod admission;
-mod fields;
 mod reader;
 mod record;
 
 pub use admission::{admit, takes};
-pub use record::{Record, RecordRead, read_record};
+pub use record::{Record, read_record};

@@ -1,3 +1,2 @@
--- Read in this order: each way of a call; what its code hands back.
+-- Each way of a call.
 pub mod UnitLaws
-pub mod CallLaws

@@ -29,9 +29,9 @@ module _ (u : Unit) (r : Record) where
   enter-accepted e = rw e
 
 -- a call is its record's admission, and then its answer
-pub call-admission : (u : Unit) (s : List ℕ) (room : ℕ) → call_of u s room ≡ on_admitted u room (admitted_of u.opened s)
+pub call_admission : (u : Unit) (s : List ℕ) (room : ℕ) → call_of u s room ≡ on_admitted u room (admitted_of u.opened s)
 unfolding call_of admitted_of
-call-admission u s room = go (read_record s)
+call_admission u s room = go (read_record s)
   where
     taken : (r : Record) (b : Bool) → u.opened || opens r ≡ b → call_on u room (accepted r) ≡ on_admitted u room (pick b (accepted r) (refused 8))
     taken r true e = ap (λ (k : Replied). if_room u room k k.reply) (enter-accepted u r e)
@@ -40,14 +40,6 @@ call-admission u s room = go (read_record s)
     go : (q : Reply Record) → call_on u room q ≡ on_admitted u room (admitted_on u.opened q)
     go (refused n) = refl
     go (accepted r) = taken r (u.opened || opens r) refl
-
--- 4 to 8
-pub call-refused : (u : Unit) (s : List ℕ) (room n : ℕ) → admitted_of u.opened s ≡ refused n → call_of u s room ≡ refusing u n
-call-refused u s room n e = call-admission u s room ∙ ap (on_admitted u room) e
-
-pub call-taken : (u : Unit) (s : List ℕ) (room : ℕ) (r : Record) → admitted_of u.opened s ≡ accepted r
-    → call_of u s room ≡ on_admitted u room (accepted r)
-call-taken u s room r e = call-admission u s room ∙ ap (on_admitted u room) e
 
 -- a refused call leaves the unit and the lent output as found
 pub record Kept (u : Unit) (k : Replied) : Type 0 where
@@ -66,7 +58,7 @@ module _ (u : Unit) (room n : ℕ) where
 pub call-keeps : (u : Unit) (s : List ℕ) (room n : ℕ) → (call_of u s room).reply ≡ refused n → Kept u (call_of u s room)
 unfolding output_after
 call-keeps u s room n e =
-    let by = call-admission u s room in
+    let by = call_admission u s room in
     record {
       unit = ap (λ (k : Replied). k.unit) by ∙ kept-admitted u room n (admitted_of u.opened s) (sym (ap (λ (k : Replied). k.reply) by) ∙ e);
       output = λ out. ap (λ (q : Reply Answer). output_after q out) e;

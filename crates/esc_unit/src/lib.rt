@@ -3,4 +3,4 @@
 
 mod unit;
 
-pub use unit::{CallReply, Called, StepReply, Unit, UnitStepped};
+pub use unit::{Called, Unit};

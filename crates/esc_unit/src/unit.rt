@@ -5,7 +5,7 @@ ghost use Rattle.std.specs.Prelude.{◌≡◌};
 ghost use Rattle.esc_unit.specs.Unit.{never_opened, unit_of, enter};
 ghost use Rattle.esc_unit.specs.Replies.{step_replied};
 
-pub use call::{CallReply, Called};
+use base::Refusal;
 use esc_answers::Answer;
 use esc_books::Books;
 use esc_feedback::{EscManager, EscManagerConfig};
@@ -20,18 +20,11 @@ pub struct Unit {
     pub books: Books,
 }
 
+// The unit after a record, or as found where the record is refused; and the reply.
 #[derive(Clone, Copy)]
-pub enum StepReply {
-    Answer(Answer),
-    // The record came before the first 00.
-    Unopened,
-}
-
-// The unit after a record, or as found.
-#[derive(Clone, Copy)]
-pub struct UnitStepped {
+pub struct Called<A> {
     pub unit: Unit,
-    pub reply: StepReply,
+    pub reply: Result<A, Refusal>,
 }
 
 impl Unit {
@@ -46,31 +39,28 @@ impl Unit {
             telemetry_response_timeout_ms: 0,
             recovery_quiet_ms: 0,
         };
-        let manager = EscManager::new(config, 0);
-        let books = Books::new();
         Self {
             opened: false,
-            manager,
-            books,
+            manager: EscManager::new(config, 0),
+            books: Books::new(),
         }
     }
 
     // Before the first 00 every other kind is refused.
-    pub fn step(self, record: Record) -> UnitStepped
+    #[tactic(auto, unfolding(crate::specs::Unit::enter))]
+    pub fn step(self, record: Record) -> Called<Answer>
         ensures { step_replied result ≡ enter self «record» }
     {
-        if !takes(self.opened, record) {
-            return UnitStepped {
-                unit: self,
-                reply: StepReply::Unopened,
+        if takes(self.opened, record) {
+            let stepped = step(self.manager, self.books, record);
+            return Called {
+                unit: opened_unit(stepped.manager, stepped.books),
+                reply: Ok(stepped.answer),
             };
         }
-        let stepped = step(self.manager, self.books, record);
-        let unit = opened_unit(stepped.manager, stepped.books);
-        let answer = stepped.answer;
-        UnitStepped {
-            unit,
-            reply: StepReply::Answer(answer),
+        Called {
+            unit: self,
+            reply: Err(Refusal::Unopened),
         }
     }
 }

@@ -1,28 +1,19 @@
 -- The first line of a chunk, by how it ends.
-use mathlib.Core.Path.{◌≡◌, refl, sym, ap, ◌∙◌}
-use mathlib.Core.Bool.{Bool, true, false}
-use mathlib.Core.List.{List, [], ◌∷◌, ◌++◌, append-nil, append_assoc}
-use Prim.Native.Nat.{ℕ, suc, ◌+◌, ◌≤◌, ◌<◌}
-use native.Mathlib.Omega.{arith}
-use native.Mathlib.Numerals.{add-one}
-use borrow.Author.Tests.{eq-eqb, ne_eqb, eqb-true, eqb-false}
-use lib.Dec.{eqb}
-use lib.ListN.{length, get_or, take, drop, take-append-drop}
-use lib.Seq.{take-suc, take_all, drop-cons, length-take-le}
+use Rattle.std.proofs.Common.{◌≡◌, ℕ, suc, ◌+◌, ◌<◌, ◌≤◌, Bool, true, false, cond, not, eqb, List, [], ◌∷◌, ◌++◌, Some, None, length, get_or, take, drop}
+use Rattle.std.proofs.Common.{refl, sym, ap, ◌∙◌, arith, append-nil, take-append-drop, drop-cons}
+use Rattle.std.proofs.lemmas.List.{take_all}
+use Rattle.std.specs.List.{position, position_or_len}
+use borrow.Author.Tests.{eq-eqb, ne_eqb, eqb-true, eqb-false, lt-ltb, le-ltb}
 use Rattle.base.specs.Choice.{pick}
-use Rattle.hex_lines.specs.Line.{line_end, most_held}
-use Rattle.hex_lines.specs.NextLine.{first_line, BufferHolds, LineHeldTo}
+use Rattle.base.proofs.ByCases.{below_or_not}
+use Rattle.hex_lines.specs.Line.{line_end}
+use Rattle.hex_lines.specs.NextLine.{first_line}
 use Rattle.hex_lines.proofs.Unended.{Unended}
-use Rattle.hex_lines.proofs.HoldLaws.{holds-front, holds_more}
 
 first_past : (line text : List ℕ) → Unended line → first_line (line ++ text) ≡ line ++ first_line text
 unfolding first_line
 first_past [] text u = refl
 first_past (c ∷ line) text u = rw (ne_eqb c line_end u.0) (ap (λ (l : List ℕ). c ∷ l) (first_past line text u.1))
-
-unended-more : (line : List ℕ) (c : ℕ) → Unended line → (c ≡ line_end → ⊥) → Unended (line ++ c ∷ [])
-unended-more [] c u n = (n, tt)
-unended-more (d ∷ line) c u n = (u.0, unended-more line c u.1 n)
 
 module _ (chunk : List ℕ) (i : ℕ) (u : Unended (take i chunk)) where
   -- LF stands behind it
@@ -39,45 +30,6 @@ module _ (chunk : List ℕ) (i : ℕ) (u : Unended (take i chunk)) where
   first-open h =
       let whole : take i chunk ≡ chunk = take_all i chunk h in
       ap first_line (sym (append-nil chunk)) ∙ first_past chunk [] (rw whole at u) ∙ append-nil chunk
-
--- while the characters of a line are held
-pub record Holding (begun chunk : List ℕ) (passed n : ℕ) (buffer : List ℕ) : Type 0 where
-  pub within : passed ≤ length chunk
-  pub unended : Unended (take passed chunk)
-  pub holds : BufferHolds (begun ++ take passed chunk) n buffer
-
-pub holding-none : (chunk buffer : List ℕ) (n : ℕ) → length buffer ≡ most_held → n ≤ most_held → Holding (take n buffer) chunk 0 n buffer
-holding-none chunk buffer n room h =
-    record {
-      within = omega arith;
-      unended = tt;
-      holds = rw (append-nil (take n buffer)) (holds-front buffer n room h);
-    }
-
-module _ {begun chunk : List ℕ} {passed n : ℕ} {buffer : List ℕ} (k : Holding begun chunk passed n buffer) where
-  pub holding-more : (n' : ℕ) (buffer' : List ℕ) → passed < length chunk → (get_or chunk passed 0 ≡ line_end → ⊥)
-      → BufferHolds (take n buffer ++ get_or chunk passed 0 ∷ []) n' buffer' → Holding begun chunk (passed + 1) n' buffer'
-  holding-more n' buffer' h e s =
-      let t : take (passed + 1) chunk ≡ take passed chunk ++ get_or chunk passed 0 ∷ [] = rw (add-one passed) (take-suc chunk passed 0 h) in
-      record {
-        within = omega arith;
-        unended = rw t (unended-more (take passed chunk) (get_or chunk passed 0) k.unended e);
-        holds =
-            rw (t, ← append_assoc)
-            (holds_more (begun ++ take passed chunk) n buffer (get_or chunk passed 0) n' buffer' k.holds s);
-      }
-
-  pub holding-ended : passed < length chunk → get_or chunk passed 0 ≡ line_end
-      → LineHeldTo begun chunk (record { passed = passed; held = n }) buffer
-  holding-ended h e =
-      let f = first_ended chunk passed k.unended h e in
-      record { passed = rw (f, length-take-le passed chunk k.within); holds = rw f k.holds }
-
-  pub holding-open : length chunk ≤ passed → LineHeldTo begun chunk (record { passed = passed; held = n }) buffer
-  holding-open h =
-      let f = first-open chunk passed k.unended h in
-      let t = take_all passed chunk h in
-      record { passed = rw f (omega (arith, k.within)); holds = rw f (rw t at k.holds) }
 
 -- the first line has no LF, and LF stands behind it where it is not all
 pub first-unended : (chunk : List ℕ) → Unended (first_line chunk)
@@ -103,3 +55,52 @@ first-split (c ∷ chunk) h = by (eqb c line_end) refl (first-split chunk) h
     by false e split h =
         let n : length (c ∷ first_line chunk) + 1 ≡ suc (length (first_line chunk) + 1) = omega arith in
         rw n (ap (λ (l : List ℕ). c ∷ l) (split (omega arith)))
+
+-- where the first LF is, which ends the first line
+first-length : (chunk : List ℕ) → length (first_line chunk) ≡ position_or_len (λ c. eqb c line_end) chunk
+unfolding first_line
+first-length [] = refl
+first-length (c ∷ chunk) = by (eqb c line_end) (first-length chunk)
+  where
+    by : (b : Bool) → length (first_line chunk) ≡ position_or_len (λ d. eqb d line_end) chunk
+        → length (pick b [] (c ∷ first_line chunk)) ≡ cond (not b) (1 + position_or_len (λ d. eqb d line_end) chunk) 0
+    by true e = refl
+    by false e = omega arith
+
+first-front : (chunk : List ℕ) → take (length (first_line chunk)) chunk ≡ first_line chunk
+unfolding first_line
+first-front [] = refl
+first-front (c ∷ chunk) = by (eqb c line_end) (first-front chunk)
+  where
+    by : (b : Bool) → take (length (first_line chunk)) chunk ≡ first_line chunk
+        → take (length (pick b [] (c ∷ first_line chunk))) (c ∷ chunk) ≡ pick b [] (c ∷ first_line chunk)
+    by true e = refl
+    by false e = ap (λ (l : List ℕ). c ∷ l) e
+
+pub record FirstEnds (chunk : List ℕ) (n : ℕ) : Type 0 where
+  pub length_is : length (first_line chunk) ≡ n
+  pub within : n < length chunk
+  pub front : take n chunk ≡ first_line chunk
+
+module _ (chunk : List ℕ) where
+  some-place : length (first_line chunk) < length chunk → position (λ c. eqb c line_end) chunk ≡ Some (length (first_line chunk))
+  some-place h =
+      rw (← first-length chunk, lt-ltb (length (first_line chunk)) (length chunk) h)
+
+  no-place : length chunk ≤ length (first_line chunk) → position (λ c. eqb c line_end) chunk ≡ None
+  no-place h = rw (← first-length chunk, le-ltb (length (first_line chunk)) (length chunk) h)
+
+  pub first-place : (n : ℕ) → position (λ c. eqb c line_end) chunk ≡ Some n → FirstEnds chunk n
+  first-place n e =
+      below_or_not (length (first_line chunk)) (length chunk)
+      (λ h.
+      let p = some-place h in
+      let l : length (first_line chunk) ≡ n = cc in
+      record { length_is = l; within = omega arith; front = rw l at (first-front chunk) })
+      (λ h. let p = no-place h in absurd (cc))
+
+  pub no-first-place : position (λ c. eqb c line_end) chunk ≡ None → first_line chunk ≡ chunk
+  no-first-place e =
+      below_or_not (length (first_line chunk)) (length chunk)
+      (λ h. let p = some-place h in absurd (cc))
+      (λ h. sym (first-front chunk) ∙ take_all (length (first_line chunk)) chunk h)

@@ -1,13 +1,8 @@
 -- Characters two by two: their byte, or that they are not both digits; digits, and so no LF; two more at a time; the byte at each place.
-use mathlib.Core.Path.{◌≡◌, refl, sym, ap, ◌∙◌}
-use mathlib.Core.Bool.{true, false≢true}
-use mathlib.Core.List.{List, [], ◌∷◌, ◌++◌, append_assoc}
-use Prim.Native.Nat.{ℕ, zero, suc, ◌+◌, ◌*◌, ◌%◌, ◌≤◌, ◌<◌}
-use native.Mathlib.Omega.{arith}
-use native.Mathlib.Numerals.{add-one}
+use Rattle.std.proofs.Common.{◌≡◌, ℕ, zero, suc, ◌+◌, ◌*◌, ◌%◌, ◌≤◌, ◌<◌, true, List, [], ◌∷◌, ◌++◌, Some, None, length, get_or, take, refl, sym, ap, ◌∙◌}
+use Rattle.std.proofs.Common.{append_assoc, add-one, arith, take-suc}
+use mathlib.Core.Bool.{false≢true}
 use borrow.Author.Tests.{lt-ltb, le-ltb}
-use lib.ListN.{length, get_or, take}
-use lib.Seq.{take-suc}
 use Rattle.base.proofs.Both.{and_left, and_right}
 use Rattle.base.proofs.ByCases.{below_or_not}
 use Rattle.hex_lines.specs.Digit.{digit_of, is_digit, pair_of}
@@ -21,11 +16,11 @@ pub record TwoDigits (c d v : ℕ) : Type 0 where
   pub value : v ≡ digit_of c * 16 + digit_of d
 
 module _ (c d : ℕ) where
-  pub pair-both : digit_of c < 16 → digit_of d < 16 → pair_of c d ≡ digit_of c * 16 + digit_of d
+  pub pair-both : digit_of c < 16 → digit_of d < 16 → pair_of c d ≡ Some (digit_of c * 16 + digit_of d)
   unfolding pair_of
   pair-both g k = rw (lt-ltb (digit_of c) 16 g, lt-ltb (digit_of d) 16 k)
 
-  pub pair-none : (digit_of c < 16 → digit_of d < 16 → ⊥) → pair_of c d ≡ 256
+  pub pair-none : (digit_of c < 16 → digit_of d < 16 → ⊥) → pair_of c d ≡ None
   unfolding pair_of
   pair-none bad =
       below_or_not (digit_of c) 16
@@ -35,17 +30,17 @@ module _ (c d : ℕ) where
       (λ b. rw (lt-ltb (digit_of c) 16 g, le-ltb (digit_of d) 16 b)))
       (λ b. rw (le-ltb (digit_of c) 16 b))
 
-  pub pair_read : (v : ℕ) → v ≡ pair_of c d → v < 256 → TwoDigits c d v
-  pair_read v e h =
+  pub pair_read : (v : ℕ) → pair_of c d ≡ Some v → TwoDigits c d v
+  pair_read v e =
       below_or_not (digit_of c) 16
       (λ g.
       below_or_not (digit_of d) 16
-      (λ k. record { first = g; second = k; value = e ∙ pair-both g k })
-      (λ b. absurd (omega (arith, pair-none (λ g k. omega arith)))))
-      (λ b. absurd (omega (arith, pair-none (λ g k. omega arith))))
+      (λ k. let both = pair-both g k in record { first = g; second = k; value = cc })
+      (λ b. let none = pair-none (λ g k. omega arith) in absurd (cc)))
+      (λ b. let none = pair-none (λ g k. omega arith) in absurd (cc))
 
-  pub pair-bad : 256 ≤ pair_of c d → digit_of c < 16 → 16 ≤ digit_of d
-  pair-bad h g = below_or_not (digit_of d) 16 (λ k. absurd (omega (arith, pair-both g k))) (λ b. b)
+  pub pair-bad : pair_of c d ≡ None → digit_of c < 16 → 16 ≤ digit_of d
+  pair-bad e g = below_or_not (digit_of d) 16 (λ k. let both = pair-both g k in absurd (cc)) (λ b. b)
 
 -- LF is no digit
 pub unended-digits : (line : List ℕ) → all_digits line ≡ true → Unended line

@@ -1,10 +1,10 @@
 -- A line of hexadecimal characters and the bytes that it stands for (document 01, 'Numbers handed back', 1 to 3).
-use Rattle.std.specs.Prelude.{ℕ, ◌+◌, ◌*◌, ◌/◌, ◌%◌, Bool, true, ◌&&◌, List, [], ◌∷◌, ◌++◌, eqb, leb, length, take}
+use Rattle.std.specs.Prelude.{ℕ, ◌+◌, ◌*◌, ◌/◌, ◌%◌, ◌≡◌, ◌≤◌, Bool, true, ◌&&◌, List, [], ◌∷◌, ◌++◌, nat_eq, nat_le, length, take, slice_index}
+use Rattle.std.specs.Prelude.{Result, Ok, Err, None}
 use Rattle.base.specs.Choice.{pick}
-use Rattle.base.specs.Reply.{Reply, accepted, refused}
-use Rattle.hex_lines.specs.Digit.{digit_of, is_digit, glyph_of}
-use Rattle.hex_lines.specs.declared.line.LineRead.{LineRead}
-use Rattle.hex_lines.specs.declared.line.LineRead.TheVariants as read
+use Rattle.base.specs.Reply.{Reply, accepted, refused, refusal_number}
+use Rattle.base.specs.declared.refusal.Refusal.{Refusal}
+use Rattle.hex_lines.specs.Digit.{digit_of, is_digit, pair_of, glyph_of}
 
 -- LF
 abbrev pub line_end : ℕ
@@ -35,8 +35,8 @@ pairs (c ∷ d ∷ line) = (digit_of c * 16 + digit_of d) ∷ pairs line
 -- 1 over 58 characters, 2 a character that is no digit, 3 an odd count of characters: in this order
 unfoldable pub read_line : List ℕ → Reply (List ℕ)
 read_line line =
-    pick (leb (length line) widest)
-    (pick (all_digits line) (pick (eqb (length line % 2) 0) (accepted (pairs line)) (refused 3)) (refused 2))
+    pick (nat_le (length line) widest)
+    (pick (all_digits line) (pick (nat_eq (length line % 2) 0) (accepted (pairs line)) (refused 3)) (refused 2))
     (refused 1)
 
 -- the two characters of each byte
@@ -48,12 +48,18 @@ hex_of (b ∷ bytes) = glyph_of (b / 16) ∷ glyph_of (b % 16) ∷ hex_of bytes
 unfoldable pub printed_line : List ℕ → List ℕ
 printed_line bytes = hex_of bytes ++ line_end ∷ []
 
--- what reading a line leaves in a record's buffer: its number, or the bytes that were put in front
-abbrev pub line_read : LineRead → List ℕ → Reply (List ℕ)
-line_read (read.Record n) buffer = accepted (take n buffer)
-line_read (read.Refused number) buffer = refused number
+-- how a line is read, where its bytes are put in front of a buffer and it is told how many they are
+abbrev pub line_read : Result ℕ Refusal → List ℕ → Reply (List ℕ)
+line_read (Ok n) buffer = accepted (take n buffer)
+line_read (Err refusal) buffer = refused (refusal_number refusal)
 
--- how many bytes a line stands for
-abbrev pub record_length : LineRead → ℕ
-record_length (read.Record n) = n
-record_length (read.Refused number) = 0
+-- n bytes stand in front of a buffer, which the first 2 n characters of a text stand for
+pub record PairsRead (text : List ℕ) (n : ℕ) (buffer : List ℕ) : Type 0 where
+  pub fits : n ≤ longest_record
+  pub within : 2 * n ≤ length text
+  pub digits : all_digits (take (2 * n) text) ≡ true
+  pub put : take n buffer ≡ pairs (take (2 * n) text)
+
+-- no two digits follow
+abbrev pub NoPairAt : List ℕ → ℕ → Type 0
+NoPairAt text place = place + 2 ≤ length text → pair_of (slice_index text place) (slice_index text (place + 1)) ≡ None

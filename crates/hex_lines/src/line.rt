@@ -1,11 +1,10 @@
 // A line of hexadecimal characters and the bytes that it stands for.
-ghost use Rattle.std.specs.Prelude.{◌≡◌, ◌+◌, ◌*◌, ◌≤◌, length};
+ghost use Rattle.std.specs.Prelude.{◌≡◌, ◌+◌, ◌*◌, ◌≤◌, ◌<◌, length, IfOk};
 ghost use Rattle.base.specs.BigEndian.{overwrite};
-ghost use Rattle.hex_lines.specs.Digit.{DigitTabled};
-ghost use Rattle.hex_lines.specs.Line.{read_line, printed_line, line_read, record_length, longest_record};
+ghost use Rattle.hex_lines.specs.Line.{read_line, printed_line, line_read, PairsRead, NoPairAt, longest_record};
 
-use crate::digit::{NO_DIGIT, glyph};
-use crate::pair::{NO_BYTE, pair, value};
+use crate::digits::{Digits, glyph};
+use base::Refusal;
 
 pub const LINE_END: u8 = b'\n';
 
@@ -15,41 +14,41 @@ const WIDEST: usize = 58;
 // As many bytes as any record has.
 pub const LONGEST_RECORD: usize = 29;
 
-#[derive(Clone, Copy)]
-pub enum LineRead {
-    // So many bytes.
-    Record(usize),
-    // 1 wide line, 2 digit, 3 half byte.
-    Refused(u8),
+// Puts the bytes that a line stands for in front of `bytes`, and gives how many they are.
+pub(crate) fn read_line(
+    digits: &Digits,
+    line: &[u8],
+    bytes: &mut [u8; LONGEST_RECORD],
+) -> Result<usize, Refusal>
+    ensures value { line_read result bytes.new ≡ read_line line.now }
+    ensures fits { IfOk result (λ n. n ≤ longest_record) }
+{
+    if WIDEST < line.len() {
+        return Err(Refusal::WideLine);
+    }
+    let n = read_pairs(digits, line, bytes);
+    match &line[2 * n..] {
+        [] => Ok(n),
+        [last] if digits.is_digit(*last) => Err(Refusal::HalfByte),
+        _ => Err(Refusal::Digit),
+    }
 }
 
-// Puts the bytes that a line stands for in front of `bytes`.
-pub(crate) fn read_line(digits: &[u8; 256], line: &[u8], bytes: &mut [u8]) -> LineRead
-    requires { DigitTabled digits.now × (length bytes.old ≡ longest_record) }
-    ensures { (line_read result bytes.new ≡ read_line line.now) × (record_length result ≤ longest_record) }
+// Puts the bytes of the digits in front of a text into `bytes`, two by two as long as there are, and gives how many they are.
+pub(crate) fn read_pairs(digits: &Digits, text: &[u8], bytes: &mut [u8; LONGEST_RECORD]) -> usize
+    ensures read { PairsRead text.now result bytes.new }
+    ensures all { result < longest_record → NoPairAt text.now (2 * result) }
 {
-    let count = line.len();
-    if WIDEST < count {
-        return LineRead::Refused(1);
+    for n in 0..LONGEST_RECORD {
+        let [first, second, ..] = &text[2 * n..] else {
+            return n;
+        };
+        let Some(byte) = digits.pair(*first, *second) else {
+            return n;
+        };
+        bytes[n] = byte;
     }
-    let mut place: usize = 0;
-    let mut n: usize = 0;
-    while place + 1 < count {
-        let byte = pair(digits, line[place], line[place + 1]);
-        if NO_BYTE <= byte {
-            return LineRead::Refused(2);
-        }
-        bytes[n] = byte as u8;
-        n += 1;
-        place += 2;
-    }
-    if place < count {
-        if NO_DIGIT <= value(digits, line[place]) {
-            return LineRead::Refused(2);
-        }
-        return LineRead::Refused(3);
-    }
-    LineRead::Record(n)
+    LONGEST_RECORD
 }
 
 // Writes bytes as a line of small digits from the place `at` on, and gives the place after it.
@@ -59,13 +58,10 @@ pub fn print_line(bytes: &[u8], out: &mut [u8], at: usize) -> usize
     ensures out_after { out.new ≡ overwrite at (printed_line bytes.now) out.old }
 {
     let mut next = at;
-    let mut i: usize = 0;
-    while i < bytes.len() {
-        let byte = bytes[i];
+    for &byte in bytes {
         out[next] = glyph(byte / 16);
         out[next + 1] = glyph(byte % 16);
         next += 2;
-        i += 1;
     }
     out[next] = LINE_END;
     next + 1

@@ -1,12 +1,11 @@
 -- The record of the next line at the front of a chunk.
-use Rattle.std.specs.Prelude.{ℕ, ◌+◌, ◌<◌, ◌≡◌, Bool, List, ◌++◌, length}
-use Rattle.base.specs.Reply.{Reply, accepted, refused}
+use Rattle.std.specs.Prelude.{ℕ, ◌+◌, ◌<◌, ◌≡◌, Bool, List, [], ◌++◌, length, take, Option, Some, None}
+use Rattle.base.specs.Reply.{Reply, accepted, refused, replied}
 use Rattle.esc_records.specs.Admission.{admitted_of}
 use Rattle.esc_records.specs.declared.record.Record as declared
 use Rattle.hex_lines.specs.Line.{read_line, most_held}
-use Rattle.hex_lines.specs.NextLine.{first_line, BufferHolds}
-use Rattle.record_lines.specs.declared.next_record.NextRecord.{NextRecord}
-use Rattle.record_lines.specs.declared.next_record.NextRecord.TheVariants.{Open, Refused, Record}
+use Rattle.hex_lines.specs.NextLine.{first_line}
+use Rattle.record_lines.specs.declared.next_record.EndedRecord.{EndedRecord}
 
 -- 1 to 3 by the line, 4 to 8 by the record and whether the unit was opened
 abbrev pub admitted_by : Bool → Reply (List ℕ) → Reply declared.Record
@@ -14,14 +13,12 @@ admitted_by opened (refused n) = refused n
 admitted_by opened (accepted record-bytes) = admitted_of opened record-bytes
 
 -- LF ends the line within the chunk, and this is what comes of its record
-pub record RecordEnded (opened : Bool) (begun chunk : List ℕ) (admission : Reply declared.Record) (next : ℕ) (line : List ℕ) : Type 0 where
+pub record RecordEnded (opened : Bool) (begun chunk : List ℕ) (ended : EndedRecord) : Type 0 where
   pub ends : length (first_line chunk) < length chunk
-  pub behind : next ≡ length (first_line chunk) + 1
-  pub admitted : admitted_by opened (read_line (begun ++ first_line chunk)) ≡ admission
-  pub room : length line ≡ most_held
+  pub behind : ended.behind ≡ length (first_line chunk) + 1
+  pub admitted : admitted_by opened (read_line (begun ++ first_line chunk)) ≡ replied ended.record
 
--- the line goes on behind the chunk, and is held; or LF ends it, and its record is refused or taken
-abbrev pub NextRecordFrom : Bool → List ℕ → List ℕ → NextRecord → List ℕ → Type 0
-NextRecordFrom opened begun chunk (Open n) line = (first_line chunk ≡ chunk) × BufferHolds (begun ++ chunk) n line
-NextRecordFrom opened begun chunk (Refused number next) line = RecordEnded opened begun chunk (refused number) next line
-NextRecordFrom opened begun chunk (Record r next) line = RecordEnded opened begun chunk (accepted r) next line
+-- the line goes on behind the chunk, and is held; or LF ends it, none is held, and its record is refused or taken
+abbrev pub NextRecordFrom : Bool → List ℕ → List ℕ → Option EndedRecord → List ℕ → Type 0
+NextRecordFrom opened begun chunk None held = (first_line chunk ≡ chunk) × (held ≡ take most_held (begun ++ chunk))
+NextRecordFrom opened begun chunk (Some ended) held = RecordEnded opened begun chunk ended × (held ≡ [])

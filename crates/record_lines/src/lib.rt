@@ -1,8 +1,7 @@
 // Lines and the records that they stand for: the record of the next line of a chunk, and a line with a wire byte read
 // straight into its numbers.
 //
-// A part of `unit_text`, for it alone: `next_record` and `collected_byte` have a `requires`, which it proves at each
-// call.
+// A part of `unit_text`, for it alone.
 #![tactic(auto)]
 
 pub mod next_record;

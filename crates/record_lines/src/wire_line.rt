@@ -1,76 +1,56 @@
 // A line with a wire byte, as most lines of a session are: it is read straight into its numbers.
-ghost use Rattle.hex_lines.specs.Digit.{DigitTabled};
-ghost use Rattle.record_lines.specs.WireLine.{WireFrom, CollectedFrom};
+ghost use Rattle.std.specs.Prelude.{IfSome};
+ghost use Rattle.hex_lines.specs.HeldLine.{held_characters};
+ghost use Rattle.record_lines.specs.WireLine.{WireAt, CollectedAt};
 
 use blheli_telemetry::StreamParser;
+use hex_lines::digits::Digits;
+use hex_lines::held_line::HeldLine;
 use hex_lines::line::LINE_END;
-use hex_lines::pair::{NO_BYTE, pair};
 
 // How many characters it has: two of the kind, two of the byte, sixteen of the time.
 pub const WIRE_LINE: usize = 20;
 
+// The byte, and its time.
 #[derive(Clone, Copy)]
-pub enum WireLine {
-    // The byte, and its time.
-    Byte(u8, u64),
-    // Another line, or one that is read by way of its record.
-    Other,
+pub struct WireByte {
+    pub byte: u8,
+    pub at_ms: u64,
 }
 
 // The byte at the front of a chunk, where it is a line of its own and the parser of an opened unit only
 // collects it: it then moves nothing but the parser and the fault's quiet time.
 pub fn collected_byte(
-    digits: &[u8; 256],
+    digits: &Digits,
     chunk: &[u8],
-    held: usize,
+    line: &HeldLine,
     opened: bool,
     parser: StreamParser,
-) -> WireLine
-    requires { DigitTabled digits.now }
-    ensures { CollectedFrom held opened parser chunk.now result }
+) -> Option<WireByte>
+    ensures { IfSome result (CollectedAt (held_characters line.now) opened parser chunk.now) }
 {
-    if held != 0 {
-        return WireLine::Other;
+    if line.is_empty() && opened && parser.collects() {
+        wire_line(digits, chunk)
+    } else {
+        None
     }
-    if !opened {
-        return WireLine::Other;
-    }
-    if !parser.collects() {
-        return WireLine::Other;
-    }
-    wire_line(digits, chunk)
 }
 
-fn wire_line(digits: &[u8; 256], chunk: &[u8]) -> WireLine
-    requires { DigitTabled digits.now }
-    ensures { WireFrom chunk.now result }
+fn wire_line(digits: &Digits, chunk: &[u8]) -> Option<WireByte>
+    ensures { IfSome result (WireAt chunk.now) }
 {
-    if chunk.len() <= WIRE_LINE {
-        return WireLine::Other;
+    if chunk.len() <= WIRE_LINE || chunk[WIRE_LINE] != LINE_END {
+        return None;
     }
-    if chunk[WIRE_LINE] != LINE_END {
-        return WireLine::Other;
+    if chunk[0] != b'0' || chunk[1] != b'5' {
+        return None;
     }
-    if chunk[0] != b'0' {
-        return WireLine::Other;
-    }
-    if chunk[1] != b'5' {
-        return WireLine::Other;
-    }
-    let byte = pair(digits, chunk[2], chunk[3]);
-    if NO_BYTE <= byte {
-        return WireLine::Other;
-    }
+    let byte = digits.pair(chunk[2], chunk[3])?;
     let mut at_ms: u64 = 0;
-    let mut read: usize = 0;
-    while read < 8 {
+    for read in 0..8 {
         let place = 4 + 2 * read;
-        let next = pair(digits, chunk[place], chunk[place + 1]);
-        if NO_BYTE <= next {
-            return WireLine::Other;
-        }
-        at_ms = at_ms * 256 + next;
-        read += 1;
+        let next = digits.pair(chunk[place], chunk[place + 1])?;
+        at_ms = at_ms * 256 + u64::from(next);
     }
-    WireLine::Byte(byte as u8, at_ms)
+    Some(WireByte { byte, at_ms })
 }

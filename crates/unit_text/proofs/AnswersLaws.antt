@@ -18,29 +18,30 @@ use Rattle.esc_lanes.specs.declared.request.EscActuatorRequest.{EscActuatorReque
 use Rattle.esc_lanes.specs.declared.request.EscActuatorAck.{EscActuatorAck}
 use Rattle.esc_lanes.specs.declared.request.EscTelemetryUpdate.{EscTelemetryUpdate}
 use Rattle.esc_feedback.specs.declared.answer.EscAckOutcome.TheVariants as outcome
-use Rattle.esc_feedback.specs.declared.answer.WireUpdate.TheVariants as update
-use Rattle.esc_feedback.specs.declared.manager.wire.Received.{Received}
+use Rattle.esc_feedback.specs.declared.answer.After.{After}
+use Rattle.std.specs.Prelude.{Option, Some, None}
+use Rattle.esc_answers.specs.declared.answer.AckAnswer.TheVariants as ack
 use Rattle.esc_feedback.proofs.WireLaws.{pushed-collected}
 use Rattle.esc_books.specs.Books.{booked_in}
-use Rattle.esc_answers.specs.Answer.{flag_byte, delivered_bytes, answer_bytes, reply_bytes, longest_answer}
+use Rattle.esc_answers.specs.Answer.{flag_byte, answer_bytes, reply_bytes, longest_answer}
 use Rattle.esc_answers.specs.declared.answer.Answer.TheVariants as answer
 use Rattle.esc_records.specs.declared.record.Record.{Record}
 use Rattle.esc_records.specs.declared.record.Record.TheVariants as kind
-use Rattle.esc_answers.proofs.AnswerLaws.{answer-at-most, decided-bytes, rejected-bytes, accepted-bytes, ack-sample-bytes, no-wire-bytes, wire-sample-bytes}
+use Rattle.esc_answers.proofs.AnswerLaws.{answer-at-most, decided-bytes, rejected-bytes, accepted-bytes, no-wire-bytes}
 use Rattle.esc_unit.specs.Admission.{on_admitted}
 use Rattle.esc_kinds.specs.Step.{step_of}
 use Rattle.esc_unit.specs.Unit.{Replied, unit_of, refusing, accepting}
 use Rattle.esc_kinds.specs.declared.kinds.Stepped.{Stepped}
 use Rattle.esc_unit.specs.declared.unit.Unit.{Unit}
 use Rattle.esc_kinds.proofs.StepLaws.{step-next, step-mark, step-ack, step-poll, step-byte}
-use Rattle.esc_unit.proofs.UnitLaws.{call-admission}
+use Rattle.esc_unit.proofs.UnitLaws.{call_admission}
 use Rattle.unit_text.specs.Session.{answer_on}
 use Rattle.record_lines.specs.NextRecord.{admitted_by}
 use Rattle.unit_text.specs.Answering.{Answers}
 
 answer-admitted : (u : Unit) (l : Reply (List ℕ)) → answer_on u l ≡ on_admitted u longest_answer (admitted_by u.opened l)
 answer-admitted u (refused n) = refl
-answer-admitted u (accepted s) = call-admission u s longest_answer
+answer-admitted u (accepted s) = call_admission u s longest_answer
 
 module _ (u : Unit) (l : Reply (List ℕ)) where
   pub answers-refused : (n : ℕ) → admitted_by u.opened l ≡ refused n → Answers u l u (n ∷ [])
@@ -88,8 +89,8 @@ module _ (u : Unit) (l : Reply (List ℕ)) where
 
     pub answers-acked : (x : EscTelemetryUpdate) → (on_ack u.manager k).answer ≡ outcome.Sample x
         → Answers u l (unit_of (on_ack u.manager k).manager (booked_in u.books x t).books)
-        (0x00 ∷ delivered_bytes (record { update = x; status = (booked_in u.books x t).status }))
-    answers-acked x o = answers-said _ _ _ e (step-ack u.manager u.books t k _ o) (sym (ack-sample-bytes _))
+        (answer_bytes (answer.Ack (ack.Sample (record { update = x; status = (booked_in u.books x t).status }))))
+    answers-acked x o = answers-step _ _ e (step-ack u.manager u.books t k _ o)
 
   -- 04
   pub answers-polled : (t : ℕ) → admitted_by u.opened l ≡ accepted (kind.PollTimeout t)
@@ -98,19 +99,19 @@ module _ (u : Unit) (l : Reply (List ℕ)) where
 
   -- 05: a sample or none
   module _ (x t : ℕ) (e : admitted_by u.opened l ≡ accepted (kind.WireByte x t)) where
-    pub answers-none : (push_wire u.manager x t).answer ≡ update.None
+    pub answers-none : (push_wire u.manager x t).answer ≡ None
         → Answers u l (unit_of (push_wire u.manager x t).manager u.books) (0x00 ∷ flag_byte false ∷ [])
     answers-none o = answers-said _ _ _ e (step-byte u.manager u.books t x _ o) (sym no-wire-bytes)
 
-    pub answers-heard : (y : EscTelemetryUpdate) → (push_wire u.manager x t).answer ≡ update.Some y
+    pub answers-heard : (y : EscTelemetryUpdate) → (push_wire u.manager x t).answer ≡ Some y
         → Answers u l (unit_of (push_wire u.manager x t).manager (booked_in u.books y t).books)
-        (0x00 ∷ delivered_bytes (record { update = y; status = (booked_in u.books y t).status }))
-    answers-heard y o = answers-said _ _ _ e (step-byte u.manager u.books t x _ o) (sym (wire-sample-bytes _))
+        (answer_bytes (answer.Wire (Some (record { update = y; status = (booked_in u.books y t).status }))))
+    answers-heard y o = answers-step _ _ e (step-byte u.manager u.books t x _ o)
 
     -- a byte that the parser only collects
     pub answers-collected : ltb u.manager.parser.len 9 ≡ true
         → Answers u l (unit_of (set_parser (collected u.manager.parser x).parser (heard_by u.manager t)) u.books) (0x00 ∷ flag_byte false ∷ [])
     answers-collected few =
         let by = pushed-collected u.manager x t few in
-        let none = answers-none (ap (λ (r : Received). r.answer) by) in
-        record { unit = ap (λ (r : Received). unit_of r.manager u.books) (sym by) ∙ none.unit; bytes = none.bytes }
+        let none = answers-none (ap (λ (r : After (Option EscTelemetryUpdate)). r.answer) by) in
+        record { unit = ap (λ (r : After (Option EscTelemetryUpdate)). unit_of r.manager u.books) (sym by) ∙ none.unit; bytes = none.bytes }

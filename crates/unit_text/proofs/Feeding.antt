@@ -1,54 +1,48 @@
 -- What feeding a chunk keeps from line to line: the stream, the output and the count are those of the characters passed.
 use mathlib.Core.Path.{◌≡◌, refl, sym, ap, ◌∙◌}
 use mathlib.Core.List.{List, [], ◌∷◌, ◌++◌, append-nil, append_assoc}
-use Prim.Native.Nat.{ℕ, ◌+◌, ◌-◌, ◌≤◌, ◌<◌, min}
+use Prim.Native.Nat.{ℕ, ◌+◌, ◌-◌, ◌≤◌, ◌<◌}
 use native.Mathlib.Omega.{arith}
 use native.Mathlib.Nat.{add-zero}
-use lib.ListN.{length, take, drop, length-append, length-drop, take-append-drop, drop_of_length-le}
+use lib.ListN.{length, take, drop, length-append, length-drop, length-take, take-append-drop, drop_of_length-le}
 use lib.Seq.{take_all, take-add, take_at, drop-drop, length-take-le}
 use Rattle.base.specs.BigEndian.{overwrite}
-use Rattle.base.proofs.ByCases.{below_or_not}
 use Rattle.base.proofs.BigEndianLaws.{overwrite-append}
-use Rattle.base.specs.Reply.{Reply}
-use Rattle.esc_records.specs.declared.record.Record.{Record}
 use Rattle.esc_unit.specs.Unit.{Replied}
 use Rattle.esc_answers.specs.Answer.{reply_bytes}
 use Rattle.esc_unit.specs.declared.unit.Unit.{Unit}
-use Rattle.hex_lines.specs.Line.{line_end, read_line, printed_line, longest_record, most_held}
+use Rattle.hex_lines.specs.Line.{line_end, read_line, printed_line, most_held}
 use Rattle.unit_text.specs.Session.{answer_on, answer_line, unit_after, line_text}
 use Rattle.unit_text.specs.Stream.{Streamed, after, printed, taken, feed_of, fed_output, longest_line}
-use Rattle.hex_lines.specs.NextLine.{first_line, BufferHolds}
+use Rattle.hex_lines.specs.NextLine.{first_line}
 use Rattle.unit_text.specs.Answering.{Answers, LinePut}
 use Rattle.record_lines.specs.NextRecord.{RecordEnded}
+use Rattle.record_lines.specs.declared.next_record.EndedRecord.{EndedRecord}
 use Rattle.base.proofs.PutLaws.{overwrite-none}
 use Rattle.hex_lines.proofs.Unended.{Unended}
 use Rattle.hex_lines.proofs.FirstLine.{first-unended, first-split}
 use Rattle.unit_text.proofs.StreamLaws.{after-append, printed-append, line-length}
 use Rattle.unit_text.proofs.LineTurn.{after-held, after_line, printed-past, printed-line, taken-past, taken-line, taken-stop}
 
-pub record Feeding (s : Streamed) (chunk out₀ : List ℕ) (unit : Unit) (line : List ℕ) (held : ℕ) (bytes out : List ℕ) (used written : ℕ) : Type 0 where
+pub record Feeding (s : Streamed) (chunk out₀ : List ℕ) (unit : Unit) (begun out : List ℕ) (used written : ℕ) : Type 0 where
   pub within : used ≤ length chunk
-  pub buffer : length line ≡ most_held
-  pub holds : held ≤ most_held
-  pub room : length bytes ≡ longest_record
+  pub short : length begun ≤ most_held
   pub long : length out ≡ length out₀
-  pub stream : record { unit = unit; line = take held line } ≡ after s (take used chunk)
+  pub stream : record { unit = unit; line = begun } ≡ after s (take used chunk)
   pub count : written ≡ length (printed s (take used chunk))
   pub fits : written ≤ length out₀
   pub text : out ≡ overwrite 0 (printed s (take used chunk)) out₀
   pub rest : taken s (length out₀) chunk ≡ used + taken (after s (take used chunk)) (length out₀ - written) (drop used chunk)
 
 -- at first
-pub feeding-none : (unit : Unit) (line : List ℕ) (held : ℕ) (chunk out bytes : List ℕ) → length line ≡ most_held → held ≤ most_held
-    → length bytes ≡ longest_record → Feeding (record { unit = unit; line = take held line }) chunk out unit line held bytes out 0 0
+pub feeding-none : (unit : Unit) (begun chunk out : List ℕ) → length begun ≤ most_held
+    → Feeding (record { unit = unit; line = begun }) chunk out unit begun out 0 0
 unfolding after printed
-feeding-none unit line held chunk out bytes l h b =
+feeding-none unit begun chunk out h =
     let all : length out - 0 ≡ length out = omega arith in
     record {
       within = omega arith;
-      buffer = l;
-      holds = h;
-      room = b;
+      short = h;
       long = refl;
       stream = refl;
       count = refl;
@@ -56,16 +50,6 @@ feeding-none unit line held chunk out bytes l h b =
       text = sym (overwrite-none 0 out);
       rest = rw all (omega arith);
     }
-
--- what is held never exceeds the buffer
-pub held-line : (line : List ℕ) (n held : ℕ) → length line ≡ most_held → held ≡ min n most_held → take n line ≡ take held line
-held-line line n held l e =
-    below_or_not n 60
-    (λ h. let same : n ≡ held = omega arith in ap (λ (m : ℕ). take m line) same)
-    (λ h.
-    let all : take n line ≡ line = take_all n line (omega arith) in
-    let all' : take held line ≡ line = take_all held line (omega arith) in
-    all ∙ sym all')
 
 -- the rest of a chunk, as a part of it
 pub part_left : (chunk : List ℕ) (used : ℕ) → take (length chunk - used) (drop used chunk) ≡ drop used chunk
@@ -79,16 +63,10 @@ module _ (s : Streamed) (chunk out₀ : List ℕ) (t : Streamed) (out : List ℕ
   unfolding feed_of fed_output
   fed_by e h t≡ w≡ o≡ = (rw (e, t≡, w≡, length-take-le used chunk h), rw e o≡)
 
-module _ {s : Streamed} {chunk out₀ : List ℕ} {unit : Unit} {line : List ℕ} {held : ℕ} {bytes out : List ℕ} {used written : ℕ}
-    (k : Feeding s chunk out₀ unit line held bytes out used written) where
+module _ {s : Streamed} {chunk out₀ : List ℕ} {unit : Unit} {begun out : List ℕ} {used written : ℕ}
+    (k : Feeding s chunk out₀ unit begun out used written) where
   abbrev left : List ℕ
   left = drop used chunk
-
-  abbrev begun : List ℕ
-  begun = take held line
-
-  short : length begun ≤ most_held
-  short = omega (arith, length-take-le held line (omega (arith, k.buffer, k.holds)), k.holds)
 
   -- a line and its LF are within the chunk
   pub goes_on : (next : ℕ) → length (first_line left) < length left → next ≡ length (first_line left) + 1 → used + next ≤ length chunk
@@ -114,15 +92,15 @@ module _ {s : Streamed} {chunk out₀ : List ℕ} {unit : Unit} {line : List ℕ
 
   module _ (roomy : longest_line ≤ length out₀ - written) where
     -- the chunk ends before the line does: all of it is used
-    pub feeding-open : (n : ℕ) (line' bytes' : List ℕ) → first_line left ≡ left → BufferHolds (begun ++ left) n line' → length bytes' ≡ longest_record
-        → Feeding s chunk out₀ unit line' n bytes' out (length chunk) written
+    pub feeding-open : (begun' : List ℕ) → first_line left ≡ left → begun' ≡ take most_held (begun ++ left)
+        → Feeding s chunk out₀ unit begun' out (length chunk) written
     unfolding taken
-    feeding-open n line' bytes' whole holds b =
+    feeding-open begun' whole holds =
         let plain : Unended left = rw whole at (first-unended left) in
         let all : take (length chunk) chunk ≡ take used chunk ++ left = take_all (length chunk) chunk (omega arith) ∙ sym (take-append-drop used chunk) in
-        let s' : record { unit = unit; line = take n line' } ≡ after s (take (length chunk) chunk) =
+        let s' : record { unit = unit; line = begun' } ≡ after s (take (length chunk) chunk) =
         rw (all, after-append s (take used chunk) left, ← k.stream)
-        (ap (λ (l : List ℕ). record { unit = unit; line = l }) holds.held ∙ sym (after-held unit begun left short plain)) in
+        (ap (λ (l : List ℕ). record { unit = unit; line = l }) holds ∙ sym (after-held unit begun left k.short plain)) in
         let p : printed s (take (length chunk) chunk) ≡ printed s (take used chunk) =
         rw (all, printed-append s (take used chunk) left, printed-past (after s (take used chunk)) left plain) (append-nil (printed s (take used chunk))) in
         let t : taken (after s (take used chunk)) (length out₀ - written) left ≡ length left =
@@ -132,9 +110,7 @@ module _ {s : Streamed} {chunk out₀ : List ℕ} {unit : Unit} {line : List ℕ
         let none : drop (length chunk) chunk ≡ [] = drop_of_length-le chunk {i = length chunk} (omega arith) in
         record {
           within = omega arith;
-          buffer = holds.room;
-          holds = holds.within;
-          room = b;
+          short = rw holds (simp length-take (omega arith));
           long = k.long;
           stream = s';
           count = k.count ∙ ap length (sym p);
@@ -172,12 +148,12 @@ module _ {s : Streamed} {chunk out₀ : List ℕ} {unit : Unit} {line : List ℕ
       stream-after : record { unit = unit'; line = [] } ≡ after s (take (used + next) chunk)
       stream-after =
           rw (further, after-append s (take used chunk) (more ++ line_end ∷ []), ← k.stream)
-          (rw unit-after (sym (after_line unit begun more short (first-unended left))))
+          (rw unit-after (sym (after_line unit begun more k.short (first-unended left))))
 
       printed-after : printed s (take (used + next) chunk) ≡ printed s (take used chunk) ++ line_text unit (begun ++ more)
       printed-after =
           rw (further, printed-append s (take used chunk) (more ++ line_end ∷ []), ← k.stream)
-          (ap (λ (l : List ℕ). printed s (take used chunk) ++ l) (printed-line unit begun more short (first-unended left)))
+          (ap (λ (l : List ℕ). printed s (take used chunk) ++ l) (printed-line unit begun more k.short (first-unended left)))
 
       next_place : written' ≡ written + length (line_text unit (begun ++ more))
       next_place = p.next ∙ ap (λ (l : List ℕ). written + length l) said
@@ -193,17 +169,14 @@ module _ {s : Streamed} {chunk out₀ : List ℕ} {unit : Unit} {line : List ℕ
           let room : length out₀ - written - length (line_text unit (begun ++ more)) ≡ length out₀ - written' = omega (arith, next_place) in
           rw (← k.stream, ← stream-after, unit-after)
           (ap (taken (record { unit = unit; line = begun }) (length out₀ - written)) (first-split left (ended))
-          ∙ taken-line unit begun more short (first-unended left) (length out₀ - written) (drop (length more + 1) left) roomy
+          ∙ taken-line unit begun more k.short (first-unended left) (length out₀ - written) (drop (length more + 1) left) roomy
           ∙ rw (rest, room) (omega (arith, behind)))
 
-      pub feeding-line : (line' bytes' : List ℕ) → length line' ≡ most_held → length bytes' ≡ longest_record → length out' ≡ length out
-          → Feeding s chunk out₀ unit' line' 0 bytes' out' (used + next) written'
-      feeding-line line' bytes' b l o =
+      pub feeding-line : length out' ≡ length out → Feeding s chunk out₀ unit' [] out' (used + next) written'
+      feeding-line o =
           record {
             within = goes_on next (ended) (behind);
-            buffer = b;
-            holds = omega arith;
-            room = l;
+            short = omega arith;
             long = o ∙ k.long;
             stream = stream-after;
             count = rw (printed-after, length-append) (omega (arith, next_place, k.count));
@@ -218,12 +191,12 @@ module _ {s : Streamed} {chunk out₀ : List ℕ} {unit : Unit} {line : List ℕ
           }
 
 -- a line whose record was refused or taken, answered and printed
-pub feeding-record : {s : Streamed} {chunk out₀ : List ℕ} {unit : Unit} {line : List ℕ} {held : ℕ} {bytes out : List ℕ} {used written : ℕ}
-    {admission : Reply Record} {next : ℕ} {line' bytes' : List ℕ} {unit' : Unit} {said : List ℕ} {written' : ℕ} {out' : List ℕ}
-    → Feeding s chunk out₀ unit line held bytes out used written → longest_line ≤ length out₀ - written
-    → RecordEnded unit.opened (take held line) (drop used chunk) admission next line'
-    → Answers unit (read_line (take held line ++ first_line (drop used chunk))) unit' said → LinePut said written out written' out'
-    → length out' ≡ length out → length bytes' ≡ longest_record
-    → Feeding s chunk out₀ unit' line' 0 bytes' out' (used + next) written'
-feeding-record k roomy ended answers printed kept b =
-    feeding-line k roomy _ ended.ends ended.behind _ _ answers _ _ printed _ _ ended.room b kept
+pub feeding-record : {s : Streamed} {chunk out₀ : List ℕ} {unit : Unit} {begun out : List ℕ} {used written : ℕ}
+    {ended : EndedRecord} {unit' : Unit} {said : List ℕ} {written' : ℕ} {out' : List ℕ}
+    → Feeding s chunk out₀ unit begun out used written → longest_line ≤ length out₀ - written
+    → RecordEnded unit.opened begun (drop used chunk) ended
+    → Answers unit (read_line (begun ++ first_line (drop used chunk))) unit' said → LinePut said written out written' out'
+    → length out' ≡ length out
+    → Feeding s chunk out₀ unit' [] out' (used + ended.behind) written'
+feeding-record k roomy ended answers printed kept =
+    feeding-line k roomy _ ended.ends ended.behind _ _ answers _ _ printed kept

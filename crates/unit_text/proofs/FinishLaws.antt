@@ -3,7 +3,9 @@ use mathlib.Core.Path.{◌≡◌, refl, sym, ◌∙◌}
 use mathlib.Core.List.{List, [], ◌∷◌, append-nil}
 use Prim.Native.Nat.{ℕ}
 use native.Mathlib.Omega.{arith}
-use borrow.Author.Tests.{eq-eqb, ne_eqb}
+use borrow.Author.Tests.{eq-eqb, ne_eqb, eqb-true}
+use mathlib.Core.Bool.{true}
+use lib.Dec.{eqb}
 use lib.ListN.{length, take}
 use Rattle.base.specs.Reply.{accepted}
 use Rattle.hex_lines.specs.Line.{line_end}
@@ -38,12 +40,12 @@ module _ (s : Streamed) where
       fed-text s (line_end ∷ []) (length text) t e text text' refl o ∙ rw one (sym (end-some n))
 
 -- the same, as the search finds it
-pub none_said : (unit : Unit) (line : List ℕ) (n : ℕ) (out : List ℕ) → n ≡ 0
-    → handed_reply (printed_at_end (record { unit = unit; line = take n line })) (length out) ≡ accepted 0
-none_said unit line n out e = rw e (sym (finish-none (record { unit = unit; line = [] }) out refl).0)
+pub none_said : (unit : Unit) (begun out : List ℕ) → eqb (length begun) 0 ≡ true
+    → handed_reply (printed_at_end (record { unit = unit; line = begun })) (length out) ≡ accepted 0
+none_said unit begun out e = sym (finish-none (record { unit = unit; line = begun }) out (eqb-true _ _ e)).0
 
-pub none_put : (unit : Unit) (line : List ℕ) (n : ℕ) (out : List ℕ) → n ≡ 0
-    → handed_output (printed_at_end (record { unit = unit; line = take n line })) out ≡ out
-none_put unit line n out e = rw e (sym (finish-none (record { unit = unit; line = [] }) out refl).1)
+pub none_put : (unit : Unit) (begun out : List ℕ) → eqb (length begun) 0 ≡ true
+    → handed_output (printed_at_end (record { unit = unit; line = begun })) out ≡ out
+none_put unit begun out e = sym (finish-none (record { unit = unit; line = begun }) out (eqb-true _ _ e)).1
 
 pub ruleset none_begun = (none_said, none_put)

@@ -6,7 +6,7 @@ use lib.ListN.{take}
 use Rattle.esc_unit.specs.Unit.{Replied}
 use Rattle.esc_unit.specs.declared.unit.Unit.{Unit}
 use Rattle.hex_lines.specs.Line.{most_held}
-use Rattle.hex_lines.proofs.HeldEnough.{enough-line}
+use Rattle.hex_lines.proofs.HeldLaws.{enough-line}
 use Rattle.unit_text.specs.Session.{answer_on, answer_line, unit_after, line_text}
 
 enough-answer : (u : Unit) (line : List ℕ) → answer_line u (take most_held line) ≡ answer_line u line

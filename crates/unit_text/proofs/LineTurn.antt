@@ -10,7 +10,7 @@ use Rattle.esc_unit.specs.declared.unit.Unit.{Unit}
 use Rattle.hex_lines.specs.Line.{line_end, most_held}
 use Rattle.unit_text.specs.Session.{unit_after, line_text}
 use Rattle.unit_text.specs.Stream.{Streamed, after_one, after, printed, taken, longest_line}
-use Rattle.hex_lines.proofs.HeldEnough.{enough-more}
+use Rattle.hex_lines.proofs.HeldLaws.{enough-more}
 use Rattle.unit_text.proofs.HeldAnswer.{enough-unit, enough-text}
 use Rattle.hex_lines.proofs.Unended.{Unended}
 use Rattle.unit_text.proofs.StreamLaws.{passed, after-append, printed-append, after-end, printed-end, after-other, printed-other}

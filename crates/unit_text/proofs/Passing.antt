@@ -16,7 +16,8 @@ use Rattle.unit_text.specs.Stream.{Streamed, Taken, at_start, after, printed, pr
 use Rattle.base.proofs.PutLaws.{overwrite-none}
 use Rattle.unit_text.proofs.StreamLaws.{after_on, printed-append, end-length}
 use Rattle.unit_text.proofs.SessionLaws.{streamed-session}
-use Rattle.base.proofs.HandLaws.{fits-reply, fits-output, short-reply, told-length}
+use Rattle.base.proofs.ByCases.{below_or_not}
+use Rattle.base.proofs.HandLaws.{fits-reply, fits-output, short-reply, short-output, told-length}
 use Rattle.unit_text.proofs.FedLaws.{fed-stream, fed-written, fed-within, fed-some, fed-fits, fed-text}
 
 pub record Passing (text out₀ : List ℕ) (writes : Bool) (s : Streamed) (piece out : List ℕ) (used written : ℕ) : Type 0 where
@@ -147,11 +148,8 @@ module _ {text out₀ : List ℕ} {writes : Bool} {s : Streamed} {piece out : Li
     pub end-count : (n : ℕ) → accepted n ≡ handed_reply (printed_at_end s) (length piece) → n ≡ length (printed_at_end s)
     end-count n e = told-length (printed_at_end s) piece n e
 
-    pub end-written : refused 9 ≡ handed_reply (printed_at_end s) (length piece) → ⊥
-    end-written e =
-        let q : refused 9 ≡ accepted (length (printed_at_end s)) = e ∙ fits-reply (printed_at_end s) piece end_fits in
-        let z : ◌≡◌ {A = ℕ} 0 1 = cc in
-        omega arith
+    pub end-written : (number : ℕ) → refused number ≡ handed_reply (printed_at_end s) (length piece) → ⊥
+    end-written number e = let q : refused number ≡ accepted (length (printed_at_end s)) = e ∙ fits-reply (printed_at_end s) piece end_fits in cc
 
     pub passing-end-short : (n : ℕ) → n ≡ length (printed_at_end s) → length out₀ - written < n → HandsBack text out₀ writes (refused 9) out
     passing-end-short n e h =
@@ -169,3 +167,10 @@ module _ {text out₀ : List ℕ} {writes : Bool} {s : Streamed} {piece out : Li
               (copied_on writes done (printed_at_end s) out₀ out out' written k.count (omega (arith, k.fits)) k.copied
               (o ∙ ap (λ (x : List ℕ). pick writes (overwrite written x out) out) put)),
         )
+
+-- what is refused leaves the output as found, whatever the number
+pub told-refused : (text out : List ℕ) (number : ℕ) → refused number ≡ handed_reply text (length out) → out ≡ handed_output text out
+told-refused text out number e =
+    below_or_not (length out) (length text)
+    (λ h. sym (short-output text out h))
+    (λ h. let q : refused number ≡ accepted (length text) = e ∙ fits-reply text out h in absurd (cc))

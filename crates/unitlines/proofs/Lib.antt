@@ -1,2 +1,3 @@
--- SoFar: what a session has read and written so far.
+-- A chunk in its parts; what a session has read and written so far.
+pub mod Parts
 pub mod SoFar

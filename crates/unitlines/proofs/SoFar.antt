@@ -3,9 +3,7 @@
 use mathlib.Core.Path.{◌≡◌, sym, ap, ◌∙◌}
 use mathlib.Core.List.{List, [], ◌++◌, append-nil}
 use mathlib.Core.Path.{subst}
-use Prim.Native.Nat.{ℕ, ◌+◌}
-use lib.ListN.{take, drop}
-use lib.Seq.{take-add}
+use Prim.Native.Nat.{ℕ}
 use Rattle.std.specs.Prelude.{Some, None, IfSome}
 use Rattle.std.proofs.Common.{Option}
 use Rattle.std.specs.Io.KnownBytes.{Appends, Consumes, IsAtEnd}
@@ -14,11 +12,6 @@ use Rattle.unit_text.specs.Session.{session_text}
 use Rattle.unit_text.specs.Stream.{Streamed, at_start, after, printed, printed_at_end}
 use Rattle.unit_text.proofs.SessionLaws.{streamed-session}
 use Rattle.unit_text.proofs.StreamLaws.{after-append, printed-append}
-
--- what is printed at a part, behind what is printed at all before it
-pub printed_on : (s t : Streamed) (text : List ℕ) (a b : ℕ) → t ≡ after s (take a text)
-    → printed s (take a text) ++ printed t (take b (drop a text)) ≡ printed s (take (a + b) text)
-printed_on s t text a b e = rw (take-add a b text, e) (sym (printed-append s (take a text) (take b (drop a text))))
 
 -- by the bytes that were left to read and that the writer held, at first and now
 pub record SoFar (s : Streamed) (left₀ left held₀ held : Option (List ℕ)) : Type 0 where

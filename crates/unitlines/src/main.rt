@@ -11,6 +11,7 @@ mod session;
 mod texts;
 
 use crate::files::answer_all;
+use crate::messages::not_written;
 use crate::options::no_option;
 
 fn main(rt: HostRuntime) {
@@ -21,5 +22,7 @@ fn main(rt: HostRuntime) {
     }
     let mut input = [0u8; 65536];
     let mut out = [0u8; 65536];
-    answer_all(&rt, &mut text, &mut input, &mut out);
+    if answer_all(&rt, &mut text, &mut input, &mut out).is_err() {
+        not_written(&rt);
+    }
 }

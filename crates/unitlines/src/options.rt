@@ -8,8 +8,7 @@ use command_line::{Argument, classify};
 pub(crate) fn no_option(rt: &HostRuntime, text: &mut [u8]) -> bool {
     for i in 1..argument_count(rt) {
         let n = argument_text(rt, i, text);
-        let kind = classify(&text[..n], true);
-        match kind {
+        match classify(&text[..n], true) {
             Argument::Help => {
                 print_help(rt);
                 return false;
@@ -22,11 +21,8 @@ pub(crate) fn no_option(rt: &HostRuntime, text: &mut [u8]) -> bool {
                 unknown_option(rt, &text[..n]);
                 return false;
             }
-            Argument::EndOfOptions => {
-                return true;
-            }
-            Argument::Input => {}
-            Argument::File => {}
+            Argument::EndOfOptions => return true,
+            Argument::Input | Argument::File => {}
         }
     }
     true

@@ -2,26 +2,32 @@
 // two asks what the text is that it hands to the write call, and whoever calls it has proved it. The
 // stream and the part of the input are here for that alone. Of a writer whose bytes are known, it is said that they
 // grow by that text.
-ghost use Rattle.std.specs.Prelude.{◌≡◌, true};
+ghost use Rattle.std.specs.Prelude.{◌≡◌, OnOk};
 ghost use Rattle.std.specs.Io.KnownBytes.{Appends};
 ghost use Rattle.unit_text.specs.Stream.{printed, printed_at_end};
 ghost use Rattle.unit_text.specs.Streams.{streamed};
 
+use std::io;
 use std::io::Write;
 use unit_text::Stream;
 
 // Writes what a stream prints at a part of the input.
-pub(crate) fn write_printed<W: Write>(to: &mut W, stream: Stream, part: &[u8], text: &[u8]) -> bool
+pub(crate) fn write_printed<W: Write>(
+    to: &mut W,
+    stream: Stream,
+    part: &[u8],
+    text: &[u8],
+) -> io::Result<()>
     requires { text.now ≡ printed (streamed stream) part.now }
-    ensures { result ≡ true → Appends (W.contents to.old) (W.contents to.new) (printed (streamed stream) part.now) }
+    ensures { OnOk result (Appends (W.contents to.old) (W.contents to.new) (printed (streamed stream) part.now)) }
 {
-    to.write_all(text).is_ok()
+    to.write_all(text)
 }
 
 // Writes what a stream prints at the end of the input.
-pub(crate) fn write_end<W: Write>(to: &mut W, stream: Stream, text: &[u8]) -> bool
+pub(crate) fn write_end<W: Write>(to: &mut W, stream: Stream, text: &[u8]) -> io::Result<()>
     requires { text.now ≡ printed_at_end (streamed stream) }
-    ensures { result ≡ true → Appends (W.contents to.old) (W.contents to.new) (printed_at_end (streamed stream)) }
+    ensures { OnOk result (Appends (W.contents to.old) (W.contents to.new) (printed_at_end (streamed stream))) }
 {
-    to.write_all(text).is_ok()
+    to.write_all(text)
 }

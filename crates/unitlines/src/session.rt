@@ -1,62 +1,52 @@
 // One session: lines of records from a reader, a line with the answer to each to a writer.
 // It only reads and writes; what is printed is the stream's.
-ghost use Rattle.std.specs.Prelude.{◌≡◌, true, ◌≤◌, ◌<◌, length, IfSome};
+ghost use Rattle.std.specs.Prelude.{◌≡◌, ◌≤◌, ◌<◌, length, IfSome, IfOk, OnOk};
 ghost use Rattle.std.specs.Io.KnownBytes.{Appends};
 ghost use Rattle.unit_text.specs.Session.{session_text};
 ghost use Rattle.unit_text.specs.Stream.{after, longest_line, printed, printed_at_end};
 ghost use Rattle.unit_text.specs.Streams.{streamed};
 
 use crate::output::{write_end, write_printed};
-use base::Handed;
+use std::io;
 use std::io::{Read, Write};
 use unit_text::Stream;
 
-// The stream after a chunk, and whether all that it printed was written.
+// Why a session stopped before the end of its input.
 #[derive(Clone, Copy)]
-struct Pumped {
-    stream: Stream,
-    ok: bool,
+pub(crate) enum SessionError {
+    NotRead,
+    NotWritten,
 }
 
-// Feeds all of a chunk to a stream.
-fn pump<W: Write>(to: &mut W, stream: Stream, chunk: &[u8], out: &mut [u8]) -> Pumped
+// Feeds all of a chunk to a stream, and writes what that prints. The stream after it.
+fn pump<W: Write>(to: &mut W, stream: Stream, chunk: &[u8], out: &mut [u8]) -> io::Result<Stream>
     requires { longest_line ≤ length out.old }
-    ensures stream_after { result.ok ≡ true → streamed result.stream ≡ after (streamed stream) chunk.now }
-    ensures written { result.ok ≡ true → Appends (W.contents to.old) (W.contents to.new) (printed (streamed stream) chunk.now) }
+    ensures stream_after { IfOk result (λ next. streamed next ≡ after (streamed stream) chunk.now) }
+    ensures written { OnOk result (Appends (W.contents to.old) (W.contents to.new) (printed (streamed stream) chunk.now)) }
 {
     let mut stream = stream;
-    let mut used: usize = 0;
-    while used < chunk.len() {
-        let from = used;
-        let before = stream;
-        let fed = before.feed(&chunk[from..], out);
-        let written = fed.written;
+    let mut rest = chunk;
+    while !rest.is_empty() {
+        let fed = stream.feed(rest, out);
+        let (part, behind) = rest.split_at(fed.used);
+        write_printed(to, stream, part, &out[..fed.written])?;
         stream = fed.stream;
-        used += fed.used;
-        if !write_printed(to, before, &chunk[from..used], &out[..written]) {
-            return Pumped { stream, ok: false };
-        }
+        rest = behind;
     }
-    Pumped { stream, ok: true }
+    Ok(stream)
 }
 
 // Writes what the end of input prints.
-fn finish<W: Write>(to: &mut W, stream: Stream, out: &mut [u8]) -> bool
-    ensures { result ≡ true → Appends (W.contents to.old) (W.contents to.new) (printed_at_end (streamed stream)) }
+fn finish<W: Write>(to: &mut W, stream: Stream, out: &mut [u8]) -> Result<(), SessionError>
+    ensures { OnOk result (Appends (W.contents to.old) (W.contents to.new) (printed_at_end (streamed stream))) }
 {
-    let end = stream.finish(out);
-    let Handed::Written(n) = end else {
-        return false;
+    let Ok(n) = stream.finish(out) else {
+        return Err(SessionError::NotWritten);
     };
-    write_end(to, stream, &out[..n])
-}
-
-// How a session ended.
-#[derive(Clone, Copy)]
-pub(crate) enum Ended {
-    Answered,
-    NotRead,
-    NotWritten,
+    let Ok(()) = write_end(to, stream, &out[..n]) else {
+        return Err(SessionError::NotWritten);
+    };
+    Ok(())
 }
 
 // Reads to the end of input. A loop has to end, and nothing says that the input does: the count of
@@ -67,29 +57,25 @@ pub(crate) fn run<R: Read, W: Write>(
     to: &mut W,
     input: &mut [u8],
     out: &mut [u8],
-) -> Ended
+) -> Result<(), SessionError>
     requires { longest_line ≤ length out.old }
-    ensures { 0 < length input.old → result ≡ Ended.Answered → IfSome (R.remaining from.old)
-        (λ text. Appends (W.contents to.old) (W.contents to.new) (session_text text)) }
+    ensures { 0 < length input.old → OnOk result (IfSome (R.remaining from.old)
+        (λ text. Appends (W.contents to.old) (W.contents to.new) (session_text text))) }
 {
     let mut stream = Stream::new();
     for _ in 0..u64::MAX {
         let Ok(n) = from.read(input) else {
-            return Ended::NotRead;
+            return Err(SessionError::NotRead);
         };
         if n == 0 {
-            if !finish(to, stream, out) {
-                return Ended::NotWritten;
-            }
-            return Ended::Answered;
+            return finish(to, stream, out);
         }
-        let pumped = pump(to, stream, &input[..n], out);
-        if !pumped.ok {
-            return Ended::NotWritten;
-        }
-        stream = pumped.stream;
+        let Ok(next) = pump(to, stream, &input[..n], out) else {
+            return Err(SessionError::NotWritten);
+        };
+        stream = next;
     }
-    Ended::NotRead
+    Err(SessionError::NotRead)
 }
 
 #[cfg(test)]
@@ -113,7 +99,7 @@ mod tests {
         let mut input = [0u8; 7];
         let mut out = [0u8; 256];
         let ended = run(&mut from, &mut to, &mut input, &mut out);
-        assert!(rt; matches!(ended, Ended::Answered));
+        assert!(rt; ended.is_ok());
         let answers = b"00\n00010000000000\n0001\n0000\n04\n00010000000000\n0000\n0001\n";
         assert_eq!(rt; to.as_slice(), answers.as_slice());
         Ok(())

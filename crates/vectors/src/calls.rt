@@ -1,38 +1,31 @@
 // Unit::call: a record's bytes in, its answer's bytes out.
-use crate::print;
-use base::smaller;
+use crate::print::{Hex, Refused};
 use esc_answers::LONGEST_ANSWER;
-use esc_unit::{CallReply, Unit};
+use esc_unit::Unit;
+use std::io;
 
 // What stands in the output before a call.
 const FOUND: u8 = 0xa5;
 
-// The unit after a call, which is printed with its answer.
-pub fn call(rt: &impl Print, unit: Unit, room: usize, record: &[u8]) -> Unit {
-    let mut out = [FOUND; LONGEST_ANSWER];
-    let most = smaller(room, LONGEST_ANSWER);
-    call_in(rt, unit, record, &mut out[0..most])
-}
-
-fn call_in(rt: &impl Print, unit: Unit, record: &[u8], out: &mut [u8]) -> Unit {
+// The unit after a call, which is printed with its answer or the number of the refusal; a room that is less than any answer
+// takes is printed as the call left it.
+pub fn call(rt: &impl Print, unit: Unit, room: usize, record: &[u8]) -> io::Result<Unit> {
+    let mut buffer = [FOUND; LONGEST_ANSWER];
+    let out = &mut buffer[..room.min(LONGEST_ANSWER)];
     let called = unit.call(record, out);
-    let reply = called.reply;
-    show(rt, record, reply, &out[..]);
-    called.unit
-}
-
-// The answer or the number of the refusal, and a room that is less than any answer takes.
-fn show(rt: &impl Print, record: &[u8], reply: CallReply, out: &[u8]) {
-    print::text(rt, b"call ");
-    print::bytes(rt, record);
-    print::text(rt, b": ");
-    match reply {
-        CallReply::Written(n) => print::front(rt, out, n),
-        CallReply::Refused(number) => print::refused(rt, number),
+    print!(rt; "call {}: ", Hex(record))?;
+    match called.reply {
+        Ok(n) => print!(rt; "{}", Hex(front(out, n)))?,
+        Err(refusal) => print!(rt; "{}", Refused(refusal))?,
     }
     if out.len() < LONGEST_ANSWER {
-        print::text(rt, b", room ");
-        print::bytes(rt, out);
+        print!(rt; ", room {}", Hex(out))?;
     }
-    print::text(rt, b"\n");
+    println!(rt; "")?;
+    Ok(called.unit)
+}
+
+// The first n bytes.
+pub fn front(bytes: &[u8], n: usize) -> &[u8] {
+    bytes.get(..n).unwrap_or(bytes)
 }

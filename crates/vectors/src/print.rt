@@ -1,61 +1,42 @@
-// Lines of text on standard output. A write that fails shows as a line that the expected output has
-// and this one lacks.
+// How what is computed is written.
+use base::Refusal;
 use blheli_telemetry::EscTelemetry;
-
-// Words as they are.
-pub fn text(rt: &impl Print, words: &[u8]) {
-    let _ = rt.write_all(words);
-}
-
-// A number.
-pub fn decimal(rt: &impl Print, n: u64) {
-    let _ = rt.print(n);
-}
-
-// A byte as two digits.
-pub fn byte(rt: &impl Print, b: u8) {
-    let _ = print!(rt; "{b:02x}");
-}
+use std::fmt;
 
 // Bytes, two digits each.
-pub fn bytes(rt: &impl Print, b: &[u8]) {
-    for one in b {
-        byte(rt, *one);
-    }
-}
-
-// The first n bytes.
-pub fn front(rt: &impl Print, b: &[u8], n: usize) {
-    if n <= b.len() {
-        bytes(rt, &b[0..n]);
-    }
-}
-
-// A line of numbers behind their name.
-pub fn line(rt: &impl Print, name: &[u8], numbers: &[u64]) {
-    text(rt, name);
-    for number in numbers {
-        text(rt, b" ");
-        decimal(rt, *number);
-    }
-    text(rt, b"\n");
-}
-
-// A refusal's number.
-pub fn refused(rt: &impl Print, number: u8) {
-    text(rt, b"refused ");
-    decimal(rt, number as u64);
-}
+#[derive(Clone, Copy)]
+pub struct Hex<'a>(pub &'a [u8]);
 
 // The five fields, in the frame's order.
-pub fn telemetry(rt: &impl Print, t: EscTelemetry) {
-    decimal(rt, t.temperature_c as u64);
-    text(rt, b" ");
-    decimal(rt, t.voltage_cv as u64);
-    text(rt, b" ");
-    decimal(rt, t.current_ca as u64);
-    text(rt, b" ");
-    decimal(rt, t.consumption_mah as u64);
-    text(rt, b" ");
-    decimal(rt, t.erpm_div100 as u64);
+#[derive(Clone, Copy)]
+pub struct Fields(pub EscTelemetry);
+
+// A refusal by its number.
+#[derive(Clone, Copy)]
+pub struct Refused(pub Refusal);
+
+impl fmt::Display for Hex<'_> {
+    fn fmt<W: fmt::Write>(&self, f: &mut fmt::Formatter<W>) -> fmt::Result {
+        for byte in self.0 {
+            write!(f, "{byte:02x}")?;
+        }
+        Ok(())
+    }
+}
+
+impl fmt::Display for Fields {
+    fn fmt<W: fmt::Write>(&self, f: &mut fmt::Formatter<W>) -> fmt::Result {
+        let t = self.0;
+        write!(
+            f,
+            "{} {} {} {} {}",
+            t.temperature_c, t.voltage_cv, t.current_ca, t.consumption_mah, t.erpm_div100
+        )
+    }
+}
+
+impl fmt::Display for Refused {
+    fn fmt<W: fmt::Write>(&self, f: &mut fmt::Formatter<W>) -> fmt::Result {
+        write!(f, "refused {}", u8::from(self.0))
+    }
 }

@@ -2,9 +2,10 @@
 // is expected is document 01's session, and what esc_manager.rs answers to the same records.
 use crate::{calls, steps};
 use esc_unit::Unit;
+use std::io;
 
 // One session, each record by a call and by a step.
-pub fn run(rt: &impl Print) {
+pub fn run(rt: &impl Print) -> io::Result<()> {
     // On each line the room lent for the answer, how many bytes the record has, and the record. First
     // before an opening; then document 01's session; an idle check, the next request, queued and
     // acknowledged, and the ten bytes of its frame; what that leaves: the check's status, the note of
@@ -53,28 +54,20 @@ pub fn run(rt: &impl Print) {
         \x03\x01\x06\
         \x2a\x01\x0c\
         \x2b\x01\x0c",
-    );
+    )
 }
 
 // What each record is answered by a call and by a step of the unit that the call before left.
-fn each(rt: &impl Print, records: &[u8]) {
+fn each(rt: &impl Print, records: &[u8]) -> io::Result<()> {
     let mut unit = Unit::new();
-    let mut at: usize = 0;
-    while records.len() - at > 1 {
-        let room = count(records[at]);
-        let n = count(records[at + 1]);
-        at += 2;
-        if records.len() - at < n {
-            return;
-        }
-        let end = at + n;
-        let record = &records[at..end];
-        at = end;
-        steps::step(rt, unit, record);
-        unit = calls::call(rt, unit, room, record);
+    let mut rest = records;
+    while let [room, n, behind @ ..] = rest {
+        let Some((record, next)) = behind.split_at_checked(usize::from(*n)) else {
+            return Ok(());
+        };
+        rest = next;
+        steps::step(rt, unit, record)?;
+        unit = calls::call(rt, unit, usize::from(*room), record)?;
     }
-}
-
-fn count(byte: u8) -> usize {
-    byte as usize
+    Ok(())
 }

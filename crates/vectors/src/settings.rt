@@ -1,49 +1,43 @@
 // The settings that esc_manager.rs names, and which settings of the idle check are valid: each limit met and
 // missed. What is expected is what esc_manager.rs gave.
-use crate::print;
 use esc_fault::ESC_RETRY_BACKOFF_STEPS;
 use esc_feedback::{ESC_REQUEST_EXPIRY_MS, EscManagerConfig};
 use esc_idle::{
     DSHOT_IDLE_QUALIFICATION_CONFIG, DSHOT_IDLE_THROTTLE_COMMAND, DSHOT_PREARM_STOP_HOLD_MS,
     EscIdleQualificationConfig, dshot_idle_qualification_config,
 };
+use std::io;
 
 // The settings that the boards fly, and the constants.
-pub fn run(rt: &impl Print) {
-    named(rt);
-    check(rt, DSHOT_IDLE_QUALIFICATION_CONFIG);
-    check(rt, dshot_idle_qualification_config());
-    check(rt, settings(0, 100, 250, 1200, 200, 3));
-    check(rt, settings(1, 2, 0, 1, 1, 1));
-    check(rt, settings(100, 100, 250, 1200, 200, 3));
-    check(rt, settings(30, 100, 1200, 1200, 200, 3));
-    check(rt, settings(30, 100, 250, 1200, 0, 3));
-    check(rt, settings(30, 100, 250, 1200, 200, 0));
+pub fn run(rt: &impl Print) -> io::Result<()> {
+    named(rt)?;
+    check(rt, DSHOT_IDLE_QUALIFICATION_CONFIG)?;
+    check(rt, dshot_idle_qualification_config())?;
+    check(rt, settings(0, 100, 250, 1200, 200, 3))?;
+    check(rt, settings(1, 2, 0, 1, 1, 1))?;
+    check(rt, settings(100, 100, 250, 1200, 200, 3))?;
+    check(rt, settings(30, 100, 1200, 1200, 200, 3))?;
+    check(rt, settings(30, 100, 250, 1200, 0, 3))?;
+    check(rt, settings(30, 100, 250, 1200, 200, 0))
 }
 
-fn named(rt: &impl Print) {
+fn named(rt: &impl Print) -> io::Result<()> {
     let config = EscManagerConfig::legacy_uart();
-    print::line(
-        rt,
-        b"settings legacy_uart",
-        &[
-            config.boot_delay_ms as u64,
-            config.request_period_ms as u64,
-            config.actuator_ack_timeout_ms as u64,
-            config.telemetry_response_timeout_ms as u64,
-            config.recovery_quiet_ms as u64,
-        ],
-    );
-    print::line(
-        rt,
-        b"settings expiry, backoff, hold, throttle",
-        &[
-            ESC_REQUEST_EXPIRY_MS as u64,
-            ESC_RETRY_BACKOFF_STEPS as u64,
-            DSHOT_PREARM_STOP_HOLD_MS as u64,
-            DSHOT_IDLE_THROTTLE_COMMAND as u64,
-        ],
-    );
+    println!(rt;
+        "settings legacy_uart {} {} {} {} {}",
+        config.boot_delay_ms,
+        config.request_period_ms,
+        config.actuator_ack_timeout_ms,
+        config.telemetry_response_timeout_ms,
+        config.recovery_quiet_ms
+    )?;
+    println!(rt;
+        "settings expiry, backoff, hold, throttle {} {} {} {}",
+        ESC_REQUEST_EXPIRY_MS,
+        ESC_RETRY_BACKOFF_STEPS,
+        DSHOT_PREARM_STOP_HOLD_MS,
+        DSHOT_IDLE_THROTTLE_COMMAND
+    )
 }
 
 fn settings(
@@ -64,22 +58,19 @@ fn settings(
     }
 }
 
-fn check(rt: &impl Print, config: EscIdleQualificationConfig) {
-    if config.is_valid() {
-        print::text(rt, b"valid ");
+fn check(rt: &impl Print, config: EscIdleQualificationConfig) -> io::Result<()> {
+    let word = if config.is_valid() {
+        "valid"
     } else {
-        print::text(rt, b"invalid ");
-    }
-    print::line(
-        rt,
-        b"settings",
-        &[
-            config.min_erpm_div100 as u64,
-            config.max_erpm_div100 as u64,
-            config.spinup_grace_ms as u64,
-            config.timeout_ms as u64,
-            config.max_sample_age_ms as u64,
-            config.required_consecutive_samples as u64,
-        ],
-    );
+        "invalid"
+    };
+    println!(rt;
+        "{word} settings {} {} {} {} {} {}",
+        config.min_erpm_div100,
+        config.max_erpm_div100,
+        config.spinup_grace_ms,
+        config.timeout_ms,
+        config.max_sample_age_ms,
+        config.required_consecutive_samples
+    )
 }

@@ -1,35 +1,31 @@
 // Unit::step: a record in, its answer out.
-use crate::print;
-use base::Handed;
+use crate::calls::front;
+use crate::print::{Hex, Refused};
+use base::Refusal;
 use esc_answers::{Answer, LONGEST_ANSWER, write_answer};
-use esc_records::{RecordRead, read_record};
-use esc_unit::{StepReply, Unit};
+use esc_records::read_record;
+use esc_unit::Unit;
+use std::io;
 
 // The answer of a step is printed; a record that can't be read is no step.
-pub fn step(rt: &impl Print, unit: Unit, bytes: &[u8]) {
-    let read = read_record(bytes);
-    let RecordRead::Record(record) = read else {
-        return;
+pub fn step(rt: &impl Print, unit: Unit, bytes: &[u8]) -> io::Result<()> {
+    let Ok(record) = read_record(bytes) else {
+        return Ok(());
     };
-    let stepped = unit.step(record);
-    let reply = stepped.reply;
-    show(rt, reply);
-}
-
-fn show(rt: &impl Print, reply: StepReply) {
-    print::text(rt, b"step: ");
-    match reply {
-        StepReply::Answer(answer) => written(rt, answer),
-        StepReply::Unopened => print::refused(rt, 8),
+    match unit.step(record).reply {
+        Ok(answer) => written(rt, answer),
+        Err(refusal) => refused(rt, refusal),
     }
-    print::text(rt, b"\n");
 }
 
-fn written(rt: &impl Print, answer: Answer) {
+fn written(rt: &impl Print, answer: Answer) -> io::Result<()> {
     let mut out = [0u8; LONGEST_ANSWER];
-    let written = write_answer(answer, &mut out);
-    match written {
-        Handed::Written(n) => print::front(rt, &out, n),
-        Handed::Space => print::refused(rt, 9),
+    match write_answer(answer, &mut out) {
+        Ok(n) => println!(rt; "step: {}", Hex(front(&out, n))),
+        Err(refusal) => refused(rt, refusal),
     }
+}
+
+fn refused(rt: &impl Print, refusal: Refusal) -> io::Result<()> {
+    println!(rt; "step: {}", Refused(refusal))
 }

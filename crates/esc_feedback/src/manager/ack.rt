@@ -2,53 +2,36 @@
 ghost use Rattle.std.specs.Prelude.{◌≡◌};
 ghost use Rattle.esc_feedback.specs.Ack.{on_ack, rejected_ack, started_by};
 
-use crate::answer::EscAckOutcome;
+use crate::answer::{After, EscAckOutcome};
 use crate::manager::EscManager;
-use crate::outstanding::{EarlyObservation, Outstanding, PendingRequest};
-use crate::stats::one_more;
-use esc_lanes::{EscActuatorAck, EscActuatorRequest, EscTelemetryUpdate};
-
-#[derive(Clone, Copy)]
-pub struct Acked {
-    pub manager: EscManager,
-    pub answer: EscAckOutcome,
-}
+use crate::pending::PendingRequest;
+use esc_lanes::{EscActuatorAck, EscActuatorRequest, EscTelemetryObservation, EscTelemetryUpdate};
 
 impl EscManager {
     // 03: the open request was started, and a frame that was held for it is delivered; any other is counted.
-    pub fn on_actuator_ack(self, ack: EscActuatorAck) -> Acked
+    #[tactic(auto, using(esc_lanes::proofs::RequestLaws::request_equal), unfolding(crate::specs::Ack::on_ack, crate::specs::Ack::ack_on))]
+    pub fn on_actuator_ack(self, ack: EscActuatorAck) -> After<EscAckOutcome>
         ensures { result ≡ on_ack self ack }
     {
-        let mut m = self;
+        let mut manager = self;
         // While faulted: the actuator was still busy with a request, so it is not quiet yet.
-        let fault = m.fault;
-        let heard = fault.heard(ack.started_at_ms);
-        m.fault = heard;
-        let outstanding = m.outstanding;
-        let pending = outstanding.pending;
-        let PendingRequest::Queued {
-            request,
-            queued_at_ms: _,
-            early,
-        } = pending
-        else {
-            return m.mismatched();
+        manager.fault = self.fault.heard(ack.started_at_ms);
+        let Some(PendingRequest::Queued { request, early, .. }) = self.pending else {
+            return manager.mismatched();
         };
-        let named = ack.request;
-        if !named.same(request) {
-            return m.mismatched();
+        if ack.request == request {
+            return manager.started(request, ack.started_at_ms, early);
         }
-        m.started(request, ack.started_at_ms, early)
+        manager.mismatched()
     }
 
-    fn mismatched(self) -> Acked
+    fn mismatched(self) -> After<EscAckOutcome>
         ensures { result ≡ rejected_ack self }
     {
-        let mut m = self;
-        let mismatched_acks = one_more(m.stats.mismatched_acks);
-        m.stats.mismatched_acks = mismatched_acks;
-        Acked {
-            manager: m,
+        let mut manager = self;
+        manager.stats.mismatched_acks = self.stats.mismatched_acks.wrapping_add(1);
+        After {
+            manager,
             answer: EscAckOutcome::Rejected,
         }
     }
@@ -58,32 +41,30 @@ impl EscManager {
         self,
         request: EscActuatorRequest,
         started_at_ms: u64,
-        early: EarlyObservation,
-    ) -> Acked
+        early: Option<EscTelemetryObservation>,
+    ) -> After<EscAckOutcome>
         ensures { result ≡ started_by self request started_at_ms early }
     {
-        let mut m = self;
-        let requests_started = one_more(m.stats.requests_started);
-        m.stats.requests_started = requests_started;
+        let mut manager = self;
+        manager.stats.requests_started = self.stats.requests_started.wrapping_add(1);
         match early {
-            EarlyObservation::None => {
-                let outstanding = Outstanding::started(request, started_at_ms);
-                m.outstanding = outstanding;
-                Acked {
-                    manager: m,
+            None => {
+                manager.pending = Some(PendingRequest::Started {
+                    request,
+                    started_at_ms,
+                });
+                After {
+                    manager,
                     answer: EscAckOutcome::Accepted,
                 }
             }
-            EarlyObservation::Some(observation) => {
-                let output = request.output;
-                Acked {
-                    manager: m.delivered(),
-                    answer: EscAckOutcome::Sample(EscTelemetryUpdate {
-                        output,
-                        observation,
-                    }),
-                }
-            }
+            Some(observation) => After {
+                manager: manager.delivered(),
+                answer: EscAckOutcome::Sample(EscTelemetryUpdate {
+                    output: request.output,
+                    observation,
+                }),
+            },
         }
     }
 }

@@ -2,59 +2,42 @@
 ghost use Rattle.std.specs.Prelude.{◌≡◌};
 ghost use Rattle.esc_feedback.specs.Queueing.{next_request, mark_queued, granted};
 
-use crate::answer::NextRequest;
+use crate::answer::After;
 use crate::manager::EscManager;
-use crate::outstanding::{EarlyObservation, Outstanding};
-use crate::stats::one_more;
+use crate::pending::PendingRequest;
 use base::elapsed_at_least;
 use esc_lanes::EscActuatorRequest;
-
-#[derive(Clone, Copy)]
-pub struct Marked {
-    pub manager: EscManager,
-    pub answer: bool,
-}
 
 impl EscManager {
     // The request that the manager wants the actuator to execute now. The caller marks it queued only
     // after the actuator's channel has taken it.
-    pub fn next_request(self, now_ms: u64) -> NextRequest
+    #[tactic(auto, unfolding(crate::specs::Queueing::next_request, crate::specs::Queueing::request_exists))]
+    pub fn next_request(self, now_ms: u64) -> Option<EscActuatorRequest>
         ensures { result ≡ next_request self now_ms }
     {
-        if self.fault.faulted {
-            return NextRequest::None;
+        let wanted = !self.is_faulted()
+            && self.pending.is_none()
+            && elapsed_at_least(self.boot_started_ms, now_ms, self.config.boot_delay_ms)
+            && self.turn.period_due(now_ms, self.config.request_period_ms);
+        if wanted {
+            Some(self.turn.request())
+        } else {
+            None
         }
-        let outstanding = self.outstanding;
-        if outstanding.is_open() {
-            return NextRequest::None;
-        }
-        if !elapsed_at_least(self.boot_started_ms, now_ms, self.config.boot_delay_ms) {
-            return NextRequest::None;
-        }
-        let turn = self.turn;
-        if !turn.period_due(now_ms, self.config.request_period_ms) {
-            return NextRequest::None;
-        }
-        NextRequest::Some(turn.request())
     }
 
     // Yes where the request is the one wanted now.
-    pub fn mark_request_queued(self, request: EscActuatorRequest, now_ms: u64) -> Marked
+    #[tactic(auto, using(crate::proofs::QueueingLaws::wanted_equal), unfolding(crate::specs::Queueing::mark_queued))]
+    pub fn mark_request_queued(self, request: EscActuatorRequest, now_ms: u64) -> After<bool>
         ensures { result ≡ mark_queued self request now_ms }
     {
-        let NextRequest::Some(wanted) = self.next_request(now_ms) else {
-            return Marked {
-                manager: self,
-                answer: false,
-            };
-        };
-        if !request.same(wanted) {
-            return Marked {
+        if Some(request) != self.next_request(now_ms) {
+            return After {
                 manager: self,
                 answer: false,
             };
         }
-        Marked {
+        After {
             manager: self.granted(request, now_ms),
             answer: true,
         }
@@ -63,14 +46,14 @@ impl EscManager {
     fn granted(self, request: EscActuatorRequest, now_ms: u64) -> EscManager
         ensures { result ≡ granted self request now_ms }
     {
-        let mut m = self;
-        let outstanding = Outstanding::queued(request, now_ms, EarlyObservation::None);
-        m.outstanding = outstanding;
-        let turn = m.turn;
-        let next = turn.after(now_ms);
-        m.turn = next;
-        let requests_queued = one_more(m.stats.requests_queued);
-        m.stats.requests_queued = requests_queued;
-        m
+        let mut manager = self;
+        manager.pending = Some(PendingRequest::Queued {
+            request,
+            queued_at_ms: now_ms,
+            early: None,
+        });
+        manager.turn = self.turn.after(now_ms);
+        manager.stats.requests_queued = self.stats.requests_queued.wrapping_add(1);
+        manager
     }
 }

@@ -11,6 +11,7 @@ use esc_lanes::EscOutput;
 use esc_records::Record;
 
 // 0a: a new check in place of the one before.
+#[tactic(auto, unfolding(crate::specs::Step::step_of))]
 pub fn idle_check(
     manager: EscManager,
     books: Books,
@@ -27,39 +28,39 @@ pub fn idle_check(
 }
 
 // 0b: the check keeps its verdict.
+#[tactic(auto, unfolding(crate::specs::Step::step_of))]
 pub fn idle_status(manager: EscManager, books: Books, now_ms: u64) -> Stepped
     ensures { result ≡ step_of manager books (Record.IdleStatus now_ms) }
 {
     let booked = books.idle_status(now_ms);
-    let status = booked.status;
-    answered(manager, booked.books, Answer::Idle(status))
+    answered(manager, booked.books, Answer::Idle(booked.status))
 }
 
 // 0c: what the manager counts, and whether it is faulted or retrying.
+#[tactic(auto, unfolding(crate::specs::Step::step_of))]
 pub fn report(manager: EscManager, books: Books) -> Stepped
     ensures { result ≡ step_of manager books Record.Report }
 {
-    let stats = manager.stats();
     let report = UnitReport {
         faulted: manager.is_faulted(),
         retrying: manager.is_retrying(),
-        stats,
+        stats: manager.stats(),
     };
     answered(manager, books, Answer::Report(report))
 }
 
 // 0d: the lane's newest delivered sample.
+#[tactic(auto, unfolding(crate::specs::Step::step_of))]
 pub fn stored_sample(manager: EscManager, books: Books, output: EscOutput) -> Stepped
     ensures { result ≡ step_of manager books (Record.StoredSample output) }
 {
-    let stored = books.stored(output);
-    answered(manager, books, Answer::Stored(stored))
+    answered(manager, books, Answer::Stored(books.stored(output)))
 }
 
 // 0e: how many samples the lane had, its hottest and its lowest voltage.
+#[tactic(auto, unfolding(crate::specs::Step::step_of))]
 pub fn figures(manager: EscManager, books: Books, output: EscOutput) -> Stepped
     ensures { result ≡ step_of manager books (Record.Figures output) }
 {
-    let figure = books.figure(output);
-    answered(manager, books, Answer::Figures(figure))
+    answered(manager, books, Answer::Figures(books.figure(output)))
 }

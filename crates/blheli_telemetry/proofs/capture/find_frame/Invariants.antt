@@ -1,13 +1,12 @@
--- No window before the start is good; the loop ends where every later one is too short.
-use mathlib.Core.Path.{◌≡◌}
-use mathlib.Core.Bool.{true}
-use Prim.Native.Nat.{ℕ, ◌≤◌, ◌<◌, ◌-◌}
-use lib.ListN.{length}
+-- No window before the next one is good; the windows end where every later one is too short.
+use Rattle.std.proofs.Common.{◌≡◌, ℕ, ◌<◌, ◌≤◌, true, length, drop}
 use Rattle.blheli_telemetry.specs.Capture.{window, good}
 use Rattle.blheli_telemetry.proofs.capture.find_frame.Given as goal
 
 abbrev pub invariant-loop-start : goal.invariant-loop-start
-invariant-loop-start l = (l.start ≤ length l.capture) × ((k : ℕ) → k < l.start → good (window l.capture k) ≡ true → ⊥)
-
-abbrev pub decreases-loop-start : goal.decreases-loop-start
-decreases-loop-start l = length l.capture - l.start
+invariant-loop-start l = record {
+  size : l.start-iterator.iter.size ≡ l.initial.start-iterator.iter.size;
+  within : l.start-iterator.count ≤ length l.capture;
+  rest : l.start-iterator.iter.rest.now ≡ drop l.start-iterator.count l.capture;
+  none_before : (k : ℕ) → k < l.start-iterator.count → good (window l.capture k) ≡ true → ⊥;
+}

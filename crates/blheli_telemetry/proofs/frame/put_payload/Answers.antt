@@ -1,12 +1,7 @@
 -- Each store starts where the one before ends, so together they are one run of nine bytes.
-use native.Mathlib.Omega.{arith}
-use mathlib.Core.Path.{◌∙◌}
-use lib.ListN.{length-set}
+use Rattle.std.proofs.Common.{arith, ◌∙◌}
 use Rattle.blheli_telemetry.proofs.FrameLaws.{payload-built}
 use Rattle.blheli_telemetry.proofs.frame.put_payload.Goals as goal
-
-pub put_be16-requires : goal.put_be16-requires
-put_be16-requires c = simp length-set (omega arith)
 
 pub returns : goal.returns
 returns c = c.put_be16-4.ensures

@@ -1,34 +1,32 @@
--- What is left of the line, behind the bytes put so far, says what the whole line does.
-use borrow.Author.Rules.{rules}
-use native.Mathlib.Omega.{arith}
-use mathlib.Core.Path.{sym}
-use Rattle.hex_lines.proofs.LineLaws.{read_wide}
-use Rattle.hex_lines.proofs.LineLeft.{left-all, left-first, left-two, left-more, left-half, left-none}
+-- The line is too wide; or its digits were read two by two, and what is left of it decides.
+use Rattle.std.proofs.Common.{arith, sym, ◌∙◌, length-drop, get_or-drop, add-zero}
+use Rattle.std.proofs.lemmas.List.{take_rest}
+use Rattle.hex_lines.proofs.LineLaws.{read_wide, none-left, one-left, bad-left, two-left}
 use Rattle.hex_lines.proofs.line.read_line.Goals as goal
 
-pub returns-then-count-gt-WIDEST : goal.returns-then-count-gt-WIDEST
-returns-then-count-gt-WIDEST c = (sym (read_wide _ (omega arith)), search rules)
+pub returns-then-line-gt-WIDEST-clause-value : goal.returns-then-line-gt-WIDEST-clause-value
+returns-then-line-gt-WIDEST-clause-value c = sym (read_wide _ (omega arith))
 
-pub loop-place-init : goal.loop-place-init
-loop-place-init c = left-all _ _ (omega arith) c.requires.1
+pub returns-in-empty-clause-value : goal.returns-in-empty-clause-value
+returns-in-empty-clause-value c = let r = c.read_pairs-n.ensures in
+    let left = simp (take_rest, length-drop) at c.in-empty.len_below in
+    sym (none-left r.read (omega arith) r.all (omega (arith, left)))
 
-pub returns-then-byte-ge-NO_BYTE : goal.returns-then-byte-ge-NO_BYTE
-returns-then-byte-ge-NO_BYTE c = let l = c.loop-place in
-    (sym (left-two l.invariant (omega arith) (omega (arith, c.pair-byte.ensures))), search rules)
+pub returns-in-len1-clause-value : goal.returns-in-len1-clause-value
+returns-in-len1-clause-value c = let r = c.read_pairs-n.ensures in
+    let some = simp (take_rest, length-drop) at c.in-len1.len_at_least in
+    let one = simp (take_rest, length-drop) at c.in-len1.len_below in
+    let digit = simp (take_rest, get_or-drop, add-zero) at c.is_digit.ensures in
+    sym (one-left r.read (omega arith) r.all (omega (arith, some)) (omega (arith, one)) (sym digit ∙ c.if-is_digit.true))
 
-pub loop-place-preserved : goal.loop-place-preserved
-loop-place-preserved c = let l = c.loop-place in
-    let byte = c.pair-byte in
-    left-more l.invariant byte.result (omega arith) byte.ensures c.if-byte-ge-NO_BYTE.false
+pub returns-in_default-clause-value : goal.returns-in_default-clause-value
+returns-in_default-clause-value c = let r = c.read_pairs-n.ensures in
+    let some = simp (take_rest, length-drop) at c.in-len1.len_at_least in
+    let one = simp (take_rest, length-drop) at c.in-len1.len_below in
+    let digit = simp (take_rest, get_or-drop, add-zero) at c.is_digit.ensures in
+    sym (bad-left r.read (omega arith) r.all (omega (arith, some)) (omega (arith, one)) (sym digit ∙ c.if-is_digit.false))
 
-pub returns-then-value-ge-NO_DIGIT : goal.returns-then-value-ge-NO_DIGIT
-returns-then-value-ge-NO_DIGIT c = let l = c.loop-place in
-    (sym (left-first l.invariant (omega arith) (omega (arith, c.value.ensures))), search rules)
-
-pub returns-then-place-count : goal.returns-then-place-count
-returns-then-place-count c = let l = c.loop-place in
-    (sym (left-half l.invariant (omega arith) (omega arith) (omega (arith, c.value.ensures))), search rules)
-
-pub returns : goal.returns
-returns c = let l = c.loop-place in
-    (sym (left-none l.invariant (omega arith)), search rules)
+pub returns-in_default-2-clause-value : goal.returns-in_default-2-clause-value
+returns-in_default-2-clause-value c = let r = c.read_pairs-n.ensures in
+    let two = simp (take_rest, length-drop) at c.in_default.len_at_least in
+    sym (two-left r.read (omega arith) r.all (omega (arith, two)) (omega (arith, two)))

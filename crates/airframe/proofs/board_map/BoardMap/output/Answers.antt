@@ -1,28 +1,18 @@
--- One output after the other.
-use mathlib.Core.Path.{◌∙◌, sym}
-use Rattle.airframe.specs.BoardMap.{output_with}
+-- The search goes over the four outputs in their order, and tests each as the rule does.
+use Rattle.std.proofs.Common.{rules, tests}
+use Rattle.std.proofs.lemmas.Iterator.{YieldsList-from_slice}
+use Rattle.std.proofs.lemmas.Iterator.Consumers.{YieldsList-from_copied}
+use Rattle.std.proofs.lemmas.Iterator.Search.{find_from_yields_List}
+use Rattle.esc_lanes.specs.Output.{all_outputs}
+use Rattle.airframe.specs.Motor.{same_motor}
+use Rattle.airframe.specs.BoardMap.{motor_on, output_with}
+use Rattle.airframe.proofs.MotorLaws.{motor_equal}
 use Rattle.airframe.proofs.board_map.BoardMap.output.Goals as goal
-
-pub returns-then-same : goal.returns-then-same
-unfolding output_with
-returns-then-same c = rw (sym c.same.ensures ∙ c.if-same.true)
-
-pub returns-then-same-2 : goal.returns-then-same-2
-unfolding output_with
-returns-then-same-2 c = rw (sym c.same.ensures ∙ c.if-same.false, sym c.same-2.ensures ∙ c.if-same-2.true)
-
-pub returns-then-same-3 : goal.returns-then-same-3
-unfolding output_with
-returns-then-same-3 c = rw (
-  sym c.same.ensures ∙ c.if-same.false,
-  sym c.same-2.ensures ∙ c.if-same-2.false,
-  sym c.same-3.ensures ∙ c.if-same-3.true,
-)
 
 pub returns : goal.returns
 unfolding output_with
-returns c = rw (
-  sym c.same.ensures ∙ c.if-same.false,
-  sym c.same-2.ensures ∙ c.if-same-2.false,
-  sym c.same-3.ensures ∙ c.if-same-3.false,
-)
+returns c =
+    let found = find_from_yields_List (λ o. same_motor (motor_on c.args.self o) c.args.motor) _ _ c.find.result c.find.ensures.ran
+    (YieldsList-from_copied (YieldsList-from_slice all_outputs cc))
+    (λ o equal f called. search (rules, tests, motor_equal)) in
+    search (rules, found)

@@ -1,5 +1,0 @@
--- Two counts rise, and the rule of saturation is the callee's.
-use Rattle.blheli_telemetry.proofs.parser.counted_bad.Goals as goal
-
-pub returns : goal.returns
-returns c = rw (c.saturating_inc-2.ensures, c.saturating_inc.ensures)
