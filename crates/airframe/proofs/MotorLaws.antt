@@ -1,7 +1,9 @@
 -- A motor and its number, one from the other; what `==` says of two motors is that their numbers are equal.
-use Rattle.std.proofs.Common.{◌≡◌, ℕ, ◌≤◌, true, eqb, refl, sym, ap, ◌∙◌, arith, eqb-true}
+use Rattle.std.proofs.Common.{◌≡◌, ℕ, suc, ◌≤◌, true, eqb, refl, sym, ap, ◌∙◌, arith, eqb-true}
 use Rattle.std.proofs.lemmas.Bool.Decides.{nat_tests}
 use denote.Enum.Bare.{sameb}
+use denote.Enum.Declared.{tag_of}
+use lib.Dec.{eqb-suc-suc}
 use Rattle.base.specs.Reply.{accepted}
 use Rattle.airframe.specs.Motor.{numeral, motor_number, same_motor, motor_of, read_motor}
 use Rattle.airframe.specs.contracts.motor.MotorNumber.{the_type}
@@ -38,23 +40,15 @@ read-motor k = read-numeral k.0 ∙ ap accepted (motor-of-number k)
 pub same-motor : (a b : Motor) → same_motor a b ≡ true → a ≡ b
 same-motor a b e = sym (motor-of-number a) ∙ (ap motor_of (eqb-true _ _ e) ∙ motor-of-number b)
 
+-- a motor's number is one more than its place among the variants
+numeral_tag : (d : MotorNumber) → numeral d ≡ suc (tag_of the_type d)
+numeral_tag One = refl
+numeral_tag Two = refl
+numeral_tag Three = refl
+numeral_tag Four = refl
+
 number_equal : (a b : MotorNumber) → sameb the_type a b ≡ eqb (numeral a) (numeral b)
-number_equal One One = refl
-number_equal One Two = refl
-number_equal One Three = refl
-number_equal One Four = refl
-number_equal Two One = refl
-number_equal Two Two = refl
-number_equal Two Three = refl
-number_equal Two Four = refl
-number_equal Three One = refl
-number_equal Three Two = refl
-number_equal Three Three = refl
-number_equal Three Four = refl
-number_equal Four One = refl
-number_equal Four Two = refl
-number_equal Four Three = refl
-number_equal Four Four = refl
+number_equal a b = rw (numeral_tag a, numeral_tag b) (sym (eqb-suc-suc (tag_of the_type a) (tag_of the_type b)))
 
 pub motor_equal : (a b : Motor) → eq-value.it a b ≡ same_motor a b
 motor_equal a b = number_equal a.0 b.0

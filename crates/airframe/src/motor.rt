@@ -8,10 +8,10 @@ use base::Refusal;
 
 #[derive(Clone, Copy, PartialEq, Eq)]
 pub enum MotorNumber {
-    One,
-    Two,
-    Three,
-    Four,
+    One = 1,
+    Two = 2,
+    Three = 3,
+    Four = 4,
 }
 
 #[derive(Clone, Copy, PartialEq, Eq)]
@@ -38,16 +38,11 @@ impl From<Motor> for u8 {
     ghost from_gives = { λ motor number. number ≡ motor_number motor };
 
     fn from(motor: Motor) -> u8 {
-        match motor.0 {
-            MotorNumber::One => 1,
-            MotorNumber::Two => 2,
-            MotorNumber::Three => 3,
-            MotorNumber::Four => 4,
-        }
+        motor.0 as u8
     }
 }
 
-// The motor of a byte that was tested.
+// The motor of a byte that was tested; of any other byte, motor 4.
 #[tactic(auto, unfolding(crate::specs::Motor::motor_of))]
 pub(crate) fn motor_of(byte: u8) -> Motor
     ensures { result ≡ motor_of byte }

@@ -1,13 +1,9 @@
 -- Numbers highest byte first: their bytes, and writing these over a buffer one after the other.
-use Rattle.std.proofs.Common.{◌≡◌, ℕ, zero, suc, ◌+◌, ◌*◌, ◌/◌, ◌%◌, ◌^◌, ◌<◌, ◌≤◌, List, [], ◌∷◌, ◌++◌, length, get_or, take, drop, set, sym, refl, ◌∙◌}
-use Rattle.std.proofs.Common.{append_assoc, add_assoc, add-suc, add-one, arith, length-append, length-drop, length-set, length-take}
+use Rattle.std.proofs.Common.{◌≡◌, ℕ, zero, suc, ◌+◌, ◌*◌, ◌/◌, ◌%◌, ◌^◌, ◌<◌, ◌≤◌, List, [], ◌∷◌, ◌++◌, length, get_or, take, drop, set, refl, ◌∙◌}
+use Rattle.std.proofs.Common.{append_assoc, add_assoc, add-suc, add-one, arith, length-append, length-drop, length-take}
 use Rattle.std.proofs.Common.{get_or-drop, take-suc, drop-drop, take_at}
 use lib.Seq.{drop-append-add, set_split}
 use Rattle.base.specs.BigEndian.{number_at, bytes_of, overwrite}
-
-pub bytes_one : (v : ℕ) → v < 256 → bytes_of 1 v ≡ v ∷ []
-unfolding bytes_of
-bytes_one v h = let e : v % 256 ≡ v = omega arith in rw e
 
 -- what k bytes spell is spelt by those bytes again, at every width
 pub bytes-number : (k : ℕ) (s : List ℕ) (at : ℕ) → ((i : ℕ) → get_or s i 0 < 256) → at + k ≤ length s → bytes_of k (number_at k s at) ≡ take k (drop at s)
@@ -25,10 +21,6 @@ pub number_fits : (k : ℕ) (s : List ℕ) (at : ℕ) → ((i : ℕ) → get_or 
 unfolding number_at
 number_fits zero s at byte = omega arith
 number_fits (suc k) s at byte = omega (arith, number_fits k s at byte, byte (at + k))
-
-pub overwrite-length : (at : ℕ) (b s : List ℕ) → at + length b ≤ length s → length (overwrite at b s) ≡ length s
-unfolding overwrite
-overwrite-length at b s h = simp (length-append, length-take, length-drop) (omega arith)
 
 -- the bytes written from the first place on stand in front
 pub overwrite-front : (b s : List ℕ) (n : ℕ) → length b ≡ n → take n (overwrite 0 b s) ≡ b
@@ -52,11 +44,3 @@ overwrite-append at n a b s e h =
     let after : drop (at + length a + length b) (take at s ++ (a ++ drop (at + length a) s)) ≡ drop (at + length a + length b) s =
     rw (← append_assoc, ← m) (drop-append-add x (drop (length x) s) (length b) ∙ drop-drop (length b) (length x) s) in
     rw (← e, before, after, length-append, add_assoc) (simp append_assoc)
-
--- two stores, one after the other
-pub overwrite-two : (at x y : ℕ) (s : List ℕ) → at + 2 ≤ length s → overwrite at (x ∷ y ∷ []) s ≡ set (set s at x) (at + 1) y
-overwrite-two at x y s h =
-    let first : at < length s = omega arith in
-    let second : at + 1 < length (set s at x) = simp length-set (omega arith) in
-    sym (overwrite-append at (at + 1) (x ∷ []) (y ∷ []) s refl (omega arith))
-    ∙ rw (overwrite-set at x s first) (overwrite-set (at + 1) y (set s at x) second)

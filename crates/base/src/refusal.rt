@@ -2,52 +2,40 @@
 ghost use Rattle.base.specs.Reply.{refusal_number};
 ghost use Rattle.std.specs.Prelude.{◌≡◌};
 
-// The twelve reasons, in the order of their numbers.
+// The twelve reasons, each with its number in document 01.
 #[derive(Clone, Copy, Debug, PartialEq, Eq)]
 pub enum Refusal {
     // A line has over 58 characters.
-    WideLine,
+    WideLine = 1,
     // A character is no digit.
-    Digit,
+    Digit = 2,
     // An odd count of characters.
-    HalfByte,
+    HalfByte = 3,
     // No record, or one whose first byte names no kind.
-    Kind,
+    Kind = 4,
     // A record, a frame or a map that has not as many bytes as it must.
-    Length,
+    Length = 5,
     // A lane above 3, or a motor that is not 1 to 4.
-    Lane,
+    Lane = 6,
     // An armed byte above 1.
-    Flag,
+    Flag = 7,
     // A record of any other kind before the first 00.
-    Unopened,
+    Unopened = 8,
     // The lent output is shorter than what is written.
-    Space,
+    Space = 9,
     // A frame's tenth byte is not the CRC of the nine.
-    CheckByte,
+    CheckByte = 10,
     // A count of magnets that is zero or odd.
-    Magnets,
+    Magnets = 11,
     // A map that has not each of 1 to 4 once.
-    Map,
+    Map = 12,
 }
 
+// The number of a reason, 1 to 12.
 impl From<Refusal> for u8 {
     ghost from_gives = { λ refusal number. number ≡ refusal_number refusal };
 
     fn from(refusal: Refusal) -> u8 {
-        match refusal {
-            Refusal::WideLine => 1,
-            Refusal::Digit => 2,
-            Refusal::HalfByte => 3,
-            Refusal::Kind => 4,
-            Refusal::Length => 5,
-            Refusal::Lane => 6,
-            Refusal::Flag => 7,
-            Refusal::Unopened => 8,
-            Refusal::Space => 9,
-            Refusal::CheckByte => 10,
-            Refusal::Magnets => 11,
-            Refusal::Map => 12,
-        }
+        refusal as u8
     }
 }

@@ -1,7 +1,6 @@
 -- Read in this order: laws on each definition, in the order of specs/; then what holds of them: framing by the bytes held, reading and
 -- writing a frame, document 01's cases.
 pub mod CrcTable
-pub mod CrcLaws
 pub mod FrameLaws
 pub mod ParserLaws
 pub mod CaptureLaws

@@ -1,6 +1,7 @@
 -- CRC-8, polynomial 07, start 0, highest bit first: bit by bit, as it is defined.
-use Rattle.std.specs.Prelude.{ℕ, ◌*◌, ◌%◌, ◌<◌, ◌≡◌, List, [], ◌∷◌, ltb, get_or}
+use Rattle.std.specs.Prelude.{ℕ, ◌*◌, ◌%◌, ◌<◌, ◌≡◌, List, ltb, get_or}
 use Rattle.std.specs.Int.Bits.{bit_xor}
+use Rattle.std.specs.List.{fold}
 use Rattle.base.specs.Choice.{pick}
 
 -- one bit: the register goes left, and takes the polynomial where the bit that leaves it was set
@@ -15,9 +16,9 @@ crc_bits x = crc_bit (crc_bit (crc_bit (crc_bit (crc_bit (crc_bit (crc_bit (crc_
 unfoldable pub crc_byte : ℕ → ℕ → ℕ
 crc_byte crc b = crc_bits (bit_xor crc b)
 
+-- the register after more bytes, one after the other
 unfoldable pub crc_from : ℕ → List ℕ → ℕ
-crc_from crc [] = crc
-crc_from crc (b ∷ bs) = crc_from (crc_byte crc b) bs
+crc_from crc bytes = fold crc_byte crc bytes
 
 unfoldable pub crc_of : List ℕ → ℕ
 crc_of bytes = crc_from 0 bytes

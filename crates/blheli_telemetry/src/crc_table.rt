@@ -1,6 +1,6 @@
 // What the eight bits of each byte do to an empty CRC register. The bitwise rule is proved of every
 // entry, in proofs/CrcTable.antt.
-pub(crate) const CRC_TABLE: [u8; 256] = [
+pub(crate) static CRC_TABLE: [u8; 256] = [
     0, 7, 14, 9, 28, 27, 18, 21, 56, 63, 54, 49, 36, 35, 42, 45, 112, 119, 126, 121, 108, 107, 98,
     101, 72, 79, 70, 65, 84, 83, 90, 93, 224, 231, 238, 233, 252, 251, 242, 245, 216, 223, 214,
     209, 196, 195, 202, 205, 144, 151, 158, 153, 140, 139, 130, 133, 168, 175, 166, 161, 180, 179,

@@ -1,11 +1,10 @@
 // The frame: temperature, then voltage, current, consumption and eRPM / 100, 16 bits each, high byte
 // first, then the CRC of those nine bytes.
-ghost use Rattle.std.specs.Prelude.{◌≡◌, ◌≤◌, length};
-ghost use Rattle.base.specs.BigEndian.{overwrite};
+ghost use Rattle.std.specs.Prelude.{◌≡◌, length};
 ghost use Rattle.base.specs.Reply.{replied};
-ghost use Rattle.blheli_telemetry.specs.Frame.{telemetry_of, payload_of, read_frame, frame_reply, frame_written};
+ghost use Rattle.blheli_telemetry.specs.Frame.{telemetry_of, payload_of, frame_of, read_frame, frame_reply, frame_written};
 
-use crate::big_endian::{be16_at, put_be16};
+use crate::big_endian::be16_at;
 use crate::crc::crc8;
 use base::Refusal;
 
@@ -38,7 +37,7 @@ pub fn decode(frame: &[u8]) -> Result<EscTelemetry, Refusal>
 }
 
 // Writes the frame at the start of out, and leaves the rest of it as it is.
-#[tactic(auto, unfolding(crate::specs::Frame::frame_reply, crate::specs::Frame::frame_written))]
+#[tactic(auto, unfolding(crate::specs::Frame::frame_reply, crate::specs::Frame::frame_written, crate::specs::Frame::frame_of, base::specs::BigEndian::overwrite))]
 pub fn encode(telemetry: EscTelemetry, out: &mut [u8]) -> Result<(), Refusal>
     ensures result_value { replied result ≡ frame_reply out.old }
     ensures out_after { out.new ≡ frame_written telemetry out.old }
@@ -46,9 +45,7 @@ pub fn encode(telemetry: EscTelemetry, out: &mut [u8]) -> Result<(), Refusal>
     if out.len() < FRAME_LEN {
         return Err(Refusal::Space);
     }
-    put_payload(out, telemetry);
-    let check = crc8(&out[..PAYLOAD_LEN]);
-    out[PAYLOAD_LEN] = check;
+    out[..FRAME_LEN].copy_from_slice(&frame_of(telemetry));
     Ok(())
 }
 
@@ -66,13 +63,28 @@ fn telemetry_of(frame: &[u8]) -> EscTelemetry
     }
 }
 
-fn put_payload(out: &mut [u8], telemetry: EscTelemetry)
-    requires { 9 ≤ length out.old }
-    ensures { out.new ≡ overwrite 0 (payload_of telemetry) out.old }
+// The payload with its check byte behind it.
+#[tactic(auto, unfolding(crate::specs::Frame::frame_of))]
+fn frame_of(telemetry: EscTelemetry) -> [u8; FRAME_LEN]
+    ensures { result ≡ frame_of telemetry }
 {
-    out[0] = telemetry.temperature_c;
-    put_be16(out, 1, telemetry.voltage_cv);
-    put_be16(out, 3, telemetry.current_ca);
-    put_be16(out, 5, telemetry.consumption_mah);
-    put_be16(out, 7, telemetry.erpm_div100);
+    let payload = payload_of(telemetry);
+    let mut frame = [0; FRAME_LEN];
+    frame[..PAYLOAD_LEN].copy_from_slice(&payload);
+    frame[PAYLOAD_LEN] = crc8(&payload);
+    frame
+}
+
+// The fields in the order of the wire.
+#[tactic(auto, unfolding(crate::specs::Frame::payload_of, base::specs::BigEndian::bytes_of))]
+fn payload_of(telemetry: EscTelemetry) -> [u8; PAYLOAD_LEN]
+    ensures { result ≡ payload_of telemetry }
+{
+    let mut payload = [0; PAYLOAD_LEN];
+    payload[0] = telemetry.temperature_c;
+    payload[1..3].copy_from_slice(&telemetry.voltage_cv.to_be_bytes());
+    payload[3..5].copy_from_slice(&telemetry.current_ca.to_be_bytes());
+    payload[5..7].copy_from_slice(&telemetry.consumption_mah.to_be_bytes());
+    payload[7..].copy_from_slice(&telemetry.erpm_div100.to_be_bytes());
+    payload
 }

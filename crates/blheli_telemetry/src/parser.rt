@@ -62,21 +62,17 @@ impl StreamParser {
     pub fn collected(self, byte: u8) -> StreamParser
         ensures { result ≡ pick (ltb self.len 9) (collected self byte).parser self }
     {
-        let len = self.len;
-        let mut bytes = self.bytes;
-        let stats = self.stats;
-        if len < 9 {
-            bytes[len] = byte;
-            return StreamParser {
-                bytes,
-                len: len + 1,
-                stats,
-            };
+        let mut parser = self;
+        if parser.collects() {
+            parser.bytes[parser.len] = byte;
+            parser.len += 1;
         }
-        self
+        parser
     }
 
-    // The parser with one byte more, and what that byte brings out of it.
+    // The parser with one byte more, and what that byte brings out of it. It is inlined, so that a caller that has the parser in a place
+    // changes it there.
+    #[inline(always)]
     #[tactic(auto, unfolding(crate::specs::Parser::push_of))]
     pub fn pushed(self, byte: u8) -> Pushed
         ensures { result ≡ push_of self byte }
@@ -88,30 +84,24 @@ impl StreamParser {
             };
         }
         let mut bytes = self.bytes;
-        let stats = self.stats;
         bytes[9] = byte;
-        let Ok(sample) = decode(&bytes) else {
-            let rest = shifted_down(bytes);
-            let stats = counted_bad(stats);
-            let parser = StreamParser {
-                bytes: rest,
-                len: 9,
-                stats,
-            };
-            return Pushed {
-                parser,
+        match decode(&bytes) {
+            Ok(sample) => Pushed {
+                parser: StreamParser {
+                    bytes,
+                    len: 0,
+                    stats: counted_good(self.stats),
+                },
+                parsed: Some(sample),
+            },
+            Err(_) => Pushed {
+                parser: StreamParser {
+                    bytes: shifted_down(bytes),
+                    len: 9,
+                    stats: counted_bad(self.stats),
+                },
                 parsed: None,
-            };
-        };
-        let stats = counted_good(stats);
-        let parser = StreamParser {
-            bytes,
-            len: 0,
-            stats,
-        };
-        Pushed {
-            parser,
-            parsed: Some(sample),
+            },
         }
     }
 
@@ -119,13 +109,7 @@ impl StreamParser {
     pub fn emptied(self) -> StreamParser
         ensures { result ≡ reset_of self }
     {
-        let bytes = self.bytes;
-        let stats = self.stats;
-        StreamParser {
-            bytes,
-            len: 0,
-            stats,
-        }
+        StreamParser { len: 0, ..self }
     }
 
     // What the parser has counted since it was made.
@@ -139,7 +123,7 @@ impl StreamParser {
     pub fn push(&mut self, byte: u8) -> Option<EscTelemetry>
         ensures { (result ≡ (push_of self.old byte).parsed) × (self.new ≡ (push_of self.old byte).parser) }
     {
-        let done = (*self).pushed(byte);
+        let done = self.pushed(byte);
         *self = done.parser;
         done.parsed
     }
@@ -148,7 +132,7 @@ impl StreamParser {
     pub fn reset(&mut self)
         ensures { self.new ≡ reset_of self.old }
     {
-        *self = (*self).emptied();
+        *self = self.emptied();
     }
 }
 

@@ -8,6 +8,7 @@ use Rattle.esc_unit.specs.declared.unit.Unit.{Unit}
 use Rattle.booking.specs.History.{Since}
 use Rattle.booking.specs.Wire.{OnWire, byte, cut, checked, latest, frame_at, parsed}
 use Rattle.booking.specs.Run.{run}
+use Rattle.booking.specs.Parser.{parser_of}
 use Rattle.booking.specs.Claims.{FrameEnds, FramedAlike}
 use Rattle.booking.proofs.ManagerState.{given-at}
 use Rattle.booking.proofs.UnitSteps.{UnitAt}
@@ -16,7 +17,7 @@ use Rattle.booking.proofs.Traced.{Fits, fits_after}
 pub frame-ends : FrameEnds
 frame-ends cs s b e =
     let i : UnitAt s.opening s.past (run cs).unit = subst (λ (z : Option Since). Fits z (run cs).unit) e (fits_after cs) in
-    ap (λ (u : Unit). (push_of u.manager.parser b).parsed) i.state ∙ given-at s.past i.p i.parser b
+    ap (λ (u : Unit). (push_of (parser_of u) b).parsed) i.state ∙ given-at s.past i.p i.parser b
 
 latest-local : (same v w : List OnWire) (n : ℕ) → latest (same ++ cut ∷ v) n ≡ latest (same ++ cut ∷ w) n
 unfolding latest

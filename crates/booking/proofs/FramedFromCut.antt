@@ -15,6 +15,7 @@ use Rattle.esc_unit.specs.declared.unit.Unit.{Unit}
 use Rattle.booking.specs.History.{Call, Opening, Byte, Seen, seen, Since, then, since_event, since}
 use Rattle.booking.specs.Wire.{OnWire, byte, cut, on_wire, wire, frame_at, parsed}
 use Rattle.booking.specs.Run.{run}
+use Rattle.booking.specs.Parser.{parser_of}
 use Rattle.booking.specs.Claims.{past_of, past_after}
 use Rattle.booking.specs.FramedFromCut.{Passed, passed_in, passed, rest, reopened, heard, given_at, given, just_cut, FramedAlikeFromCut}
 use Rattle.booking.proofs.ManagerState.{given-at}
@@ -40,26 +41,26 @@ module _ (s : Since) (u : Unit) (i : UnitAt s.opening s.past u) (later : List Pa
   abbrev Known : Unit → Type 0
   Known v = (t : Since) → Fits (Some t) v → reopened later ≡ false → given later ≡ along (wire t.past) (heard later)
 
-  gives : (b : ℕ) → (push_of u.manager.parser b).parsed ≡ parsed (frame_at (wire s.past) b)
-  gives b = ap (λ (z : Unit). (push_of z.manager.parser b).parsed) i.state ∙ given-at s.past i.p i.parser b
+  gives : (b : ℕ) → (push_of (parser_of u) b).parsed ≡ parsed (frame_at (wire s.past) b)
+  gives b = ap (λ (z : Unit). (push_of (parser_of z) b).parsed) i.state ∙ given-at s.past i.p i.parser b
 
   on-wire : (b : Option Byte) (k : Bool) → given later ≡ along (on_wire b k (wire s.past)) (heard later)
-      → given_at u.manager.parser b (given later) ≡ along (wire s.past) (on_wire b k (heard later))
+      → given_at (parser_of u) b (given later) ≡ along (wire s.past) (on_wire b k (heard later))
   unfolding along
   on-wire None true e = e
   on-wire None false e = e
   on-wire (Some b) k e = rw (gives b.value, e)
 
   one-shown : (e : Seen) (v : Unit) (o : Option Opening) → Fits (then o e (Some s)) v → (is_some o || reopened later) ≡ false → Known v
-      → given_at u.manager.parser e.wire.byte (given later) ≡ along (wire s.past) (on_wire e.wire.byte e.wire.cut (heard later))
+      → given_at (parser_of u) e.wire.byte (given later) ≡ along (wire s.past) (on_wire e.wire.byte e.wire.cut (heard later))
   unfolding wire
   one-shown e v None fits shut known =
       on-wire e.wire.byte e.wire.cut (known (record { opening = s.opening; past = e ∷ s.past }) fits shut)
   one-shown e v (Some o) fits shut known = absurd (true≢false shut)
 
-  one-call : (v : Unit) (x : Reply Record) (y : Reply Answer) → Fits (since_event x y (Some s)) v → reopened (passed_in u.manager.parser x y later) ≡ false
+  one-call : (v : Unit) (x : Reply Record) (y : Reply Answer) → Fits (since_event x y (Some s)) v → reopened (passed_in (parser_of u) x y later) ≡ false
       → Known v
-      → given (passed_in u.manager.parser x y later) ≡ along (wire s.past) (heard (passed_in u.manager.parser x y later))
+      → given (passed_in (parser_of u) x y later) ≡ along (wire s.past) (heard (passed_in (parser_of u) x y later))
   unfolding given heard reopened
   one-call v (refused n) y fits shut known = known s fits shut
   one-call v (accepted r) (refused n) fits shut known = known s fits shut

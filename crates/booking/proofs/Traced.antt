@@ -25,7 +25,7 @@ use Rattle.booking.proofs.UnitSteps.{UnitAt, unit-new, step_ok}
 
 -- the unit fits what came since the latest accepted 00, if there was one
 abbrev pub Fits : Option Since → Unit → Type 0
-Fits None u = u.opened ≡ false
+Fits None u = u ≡ never_opened
 Fits (Some s) u = UnitAt s.opening s.past u
 
 -- after a reply: refused ones are passed over
@@ -68,26 +68,26 @@ entered-open o h u i (kind.StoredSample l) = stepped-in o h u i (kind.StoredSamp
 entered-open o h u i (kind.Figures l) = stepped-in o h u i (kind.Figures l) refl (λ a. refl)
 
 -- a unit never opened
-entered-closed : (u : Unit) → u.opened ≡ false → (r : Record) → Entered None r (enter u r)
-unfolding enter step_of
-entered-closed u i (kind.Open c t) = rw i (record { replies = refl; fits = unit-new (record { config = c; boot = t }) })
-entered-closed u i (kind.NextRequest now) = rw i (record { replies = refl; fits = refl })
-entered-closed u i (kind.MarkRequestQueued q now) = rw i (record { replies = refl; fits = refl })
-entered-closed u i (kind.ActuatorAck k now) = rw i (record { replies = refl; fits = refl })
-entered-closed u i (kind.PollTimeout now) = rw i (record { replies = refl; fits = refl })
-entered-closed u i (kind.WireByte x now) = rw i (record { replies = refl; fits = refl })
-entered-closed u i kind.WireDiscontinuity = rw i (record { replies = refl; fits = refl })
-entered-closed u i (kind.TryRecover armed now) = rw i (record { replies = refl; fits = refl })
-entered-closed u i kind.TakeBackAfterRetries = rw i (record { replies = refl; fits = refl })
-entered-closed u i kind.RefreshWireStats = rw i (record { replies = refl; fits = refl })
-entered-closed u i (kind.IdleCheck c t) = rw i (record { replies = refl; fits = refl })
-entered-closed u i (kind.IdleStatus now) = rw i (record { replies = refl; fits = refl })
-entered-closed u i kind.Report = rw i (record { replies = refl; fits = refl })
-entered-closed u i (kind.StoredSample l) = rw i (record { replies = refl; fits = refl })
-entered-closed u i (kind.Figures l) = rw i (record { replies = refl; fits = refl })
+entered-closed : (r : Record) → Entered None r (enter never_opened r)
+unfolding enter
+entered-closed (kind.Open c t) = record { replies = refl; fits = unit-new (record { config = c; boot = t }) }
+entered-closed (kind.NextRequest now) = record { replies = refl; fits = refl }
+entered-closed (kind.MarkRequestQueued q now) = record { replies = refl; fits = refl }
+entered-closed (kind.ActuatorAck k now) = record { replies = refl; fits = refl }
+entered-closed (kind.PollTimeout now) = record { replies = refl; fits = refl }
+entered-closed (kind.WireByte x now) = record { replies = refl; fits = refl }
+entered-closed kind.WireDiscontinuity = record { replies = refl; fits = refl }
+entered-closed (kind.TryRecover armed now) = record { replies = refl; fits = refl }
+entered-closed kind.TakeBackAfterRetries = record { replies = refl; fits = refl }
+entered-closed kind.RefreshWireStats = record { replies = refl; fits = refl }
+entered-closed (kind.IdleCheck c t) = record { replies = refl; fits = refl }
+entered-closed (kind.IdleStatus now) = record { replies = refl; fits = refl }
+entered-closed kind.Report = record { replies = refl; fits = refl }
+entered-closed (kind.StoredSample l) = record { replies = refl; fits = refl }
+entered-closed (kind.Figures l) = record { replies = refl; fits = refl }
 
 entered : (s : Option Since) (u : Unit) → Fits s u → (r : Record) → Entered s r (enter u r)
-entered None u i r = entered-closed u i r
+entered None u i r = subst (λ (z : Unit). Entered None r (enter z r)) (sym i) (entered-closed r)
 entered (Some s) u i r = entered-open s.opening s.past u i r
 
 -- with the room lent

@@ -26,7 +26,7 @@ use Rattle.esc_answers.specs.declared.answer.Answer.{Answer}
 use Rattle.esc_answers.specs.declared.answer.Answer.TheVariants as answer
 use Rattle.esc_books.specs.declared.books.Books.{Books}
 use Rattle.esc_unit.specs.declared.unit.Unit.{Unit}
-use Rattle.esc_kinds.specs.declared.kinds.Stepped.{Stepped}
+use Rattle.esc_kinds.specs.declared.opened.Stepped.{Stepped}
 use Rattle.base.specs.Maybe.{or_else}
 use Rattle.booking.specs.History.{
   Opening,
@@ -87,7 +87,7 @@ pub record UnitAt (o : Opening) (h : Past) (u : Unit) : Type 0 where
 
 pub record StepOk (o : Opening) (h : Past) (r : Record) (a : Answer) (s : Stepped) : Type 0 where
   pub answers : s.answer ≡ a
-  pub unit : UnitAt o (seen r s.answer ∷ h) (unit_of s.manager s.books)
+  pub unit : UnitAt o (seen r s.answer ∷ h) (unit_of s.opened.manager s.opened.books)
 
 calm-by : (d t r f : Bool) (x : Option Timed) → pick t true (pick r false f) ≡ true → (f ≡ true → x ≡ None) → pick (d || t) None (or_else None x) ≡ None
 calm-by true t r f x k g = refl

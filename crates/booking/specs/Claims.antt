@@ -4,7 +4,7 @@
 -- the same name in small letters: `delivered-exactly` proves DeliveredExactly.
 --
 -- To read it: (x : A) → B is "for every x of A, B"; a ≡ b is "a equals b"; x ∷ xs is a list that begins with x, [] an empty one; f x is f
--- at x; s.past is the part `past` of s; a value that may be missing is none or some x. Histories have the newest first.
+-- at x; s.past is the part `past` of s; a value that may be missing is None or Some x. Histories have the newest first.
 use Rattle.std.specs.Prelude.{ℕ, ◌+◌, ◌%◌, ◌^◌, ◌≡◌, List, [], ◌∷◌, ◌++◌}
 use Rattle.std.specs.Prelude.{Option, None, Some, is_some}
 use Rattle.base.specs.Reply.{Reply, accepted, refused}
@@ -24,6 +24,7 @@ use Rattle.booking.specs.Booking.{booked_to, open_request, latest_frame, newly_s
 use Rattle.booking.specs.Counts.{one, count, queued, started, delivered, ack_timeout, response_timeout, mismatched, recovered}
 use Rattle.booking.specs.Rule.{trace_of}
 use Rattle.booking.specs.Run.{run}
+use Rattle.booking.specs.Parser.{parser_of}
 
 -- what was accepted since the latest accepted 00
 abbrev pub past_of : Option Since → Past
@@ -82,7 +83,7 @@ abbrev pub FrameEnds : Type 0
 FrameEnds =
     (cs : List Call) (s : Since) (b : ℕ)
     → since (run cs).history ≡ Some s
-    → (push_of (run cs).unit.manager.parser b).parsed ≡ parsed (frame_at (wire s.past) b)
+    → (push_of (parser_of (run cs).unit) b).parsed ≡ parsed (frame_at (wire s.past) b)
 
 -- two lists that hold the same bytes and cuts, in the same order, after some cut of each are framed alike there
 abbrev pub FramedAlike : Type 0
@@ -92,7 +93,7 @@ FramedAlike =
     → since (run ds).history ≡ Some t
     → wire s.past ≡ same ++ cut ∷ before
     → wire t.past ≡ same ++ cut ∷ before'
-    → (push_of (run cs).unit.manager.parser b).parsed ≡ (push_of (run ds).unit.manager.parser b).parsed
+    → (push_of (parser_of (run cs).unit) b).parsed ≡ (push_of (parser_of (run ds).unit) b).parsed
 
 -- the report's queued, started (03 accepted or sample), timeout, mismatched and recovery counts equal those of the answers since the
 -- opening modulo 2^32

@@ -13,6 +13,7 @@ use Rattle.esc_unit.specs.declared.unit.Unit.{Unit}
 use Rattle.booking.specs.History.{Call, Byte, Seen, seen}
 use Rattle.booking.specs.Wire.{OnWire, byte, cut, on_wire, wire}
 use Rattle.booking.specs.Run.{run}
+use Rattle.booking.specs.Parser.{parser_of}
 use Rattle.booking.specs.Claims.{past_after}
 
 -- an accepted call: what it shows, and the unit's parser as it found it
@@ -30,7 +31,7 @@ passed_in p (accepted r) (accepted a) later = record { shows = seen r a; parser 
 unfoldable pub passed : Unit → List Call → List Passed
 passed u [] = []
 passed u (c ∷ cs) =
-    passed_in u.manager.parser (read_record c.bytes) (call_of u c.bytes c.room).reply (passed (call_of u c.bytes c.room).unit cs)
+    passed_in (parser_of u) (read_record c.bytes) (call_of u c.bytes c.room).reply (passed (call_of u c.bytes c.room).unit cs)
 
 -- of a list `before ++ after`, those after `before`
 abbrev pub rest : List Call → List Call → List Passed

@@ -1,5 +1,5 @@
 -- Read in this order: what was fed and seen (History); the rules, part by part, from Wire to Counts; the rule for every call; how a list is
--- run; then the claims, Claims first: who judges them begins there and looks up what they cite.
+-- run, and a unit's parser; then the claims, Claims first: who judges them begins there and looks up what they cite.
 pub mod History
 pub mod Wire
 pub mod Booking
@@ -10,6 +10,7 @@ pub mod IdleRule
 pub mod Counts
 pub mod Rule
 pub mod Run
+pub mod Parser
 pub mod Claims
 pub mod FirstNine
 pub mod FramedFromCut

@@ -50,5 +50,5 @@ fn lane_of_motor(map: &[u8], motor: u8) -> Result<u8, Refusal>
     }
     let motor = Motor::try_from(motor)?;
     let map = BoardMap::try_from(map)?;
-    Ok(map.output(motor).index() as u8)
+    Ok(u8::from(map.output(motor)))
 }

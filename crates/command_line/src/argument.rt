@@ -1,13 +1,13 @@
 // What an argument of the command line is.
 ghost use Rattle.std.specs.Prelude.{◌≡◌};
-ghost use Rattle.command_line.specs.Argument.{kind_of, option_or_file};
+ghost use Rattle.command_line.specs.Argument.{kind_of};
 
-#[derive(Clone, Copy)]
+#[derive(Clone, Copy, Debug, PartialEq, Eq)]
 pub enum Argument {
-    // standard input
+    // Standard input.
     Input,
     File,
-    // no option follows
+    // No option follows.
     EndOfOptions,
     Help,
     Version,
@@ -15,34 +15,17 @@ pub enum Argument {
 }
 
 // What an argument is: an option only where `--` has not ended them.
-#[tactic(auto, unfolding(crate::specs::Argument::kind_of))]
+#[tactic(auto, unfolding(crate::specs::Argument::kind_of, crate::specs::Argument::option_or_file))]
 pub fn classify(text: &[u8], options: bool) -> Argument
     ensures { result ≡ kind_of options text.now }
 {
-    if text == b"-".as_slice() {
-        return Argument::Input;
+    match text {
+        b"-" => Argument::Input,
+        _ if !options => Argument::File,
+        b"--" => Argument::EndOfOptions,
+        b"--help" => Argument::Help,
+        b"--version" => Argument::Version,
+        [b'-', ..] => Argument::UnknownOption,
+        _ => Argument::File,
     }
-    if !options {
-        return Argument::File;
-    }
-    option_or_file(text)
-}
-
-#[tactic(auto, unfolding(crate::specs::Argument::option_or_file))]
-fn option_or_file(text: &[u8]) -> Argument
-    ensures { result ≡ option_or_file text.now }
-{
-    if text == b"--".as_slice() {
-        return Argument::EndOfOptions;
-    }
-    if text == b"--help".as_slice() {
-        return Argument::Help;
-    }
-    if text == b"--version".as_slice() {
-        return Argument::Version;
-    }
-    if text.starts_with(b"-") {
-        return Argument::UnknownOption;
-    }
-    Argument::File
 }

@@ -107,14 +107,6 @@ pub accepted-bytes : answer_bytes (answer.Ack ack.Accepted) ≡ 0x00 ∷ flag_by
 unfolding answer_bytes body_bytes ack_bytes
 accepted-bytes = refl
 
-pub ack-sample-bytes : (d : Delivered) → answer_bytes (answer.Ack (ack.Sample d)) ≡ 0x00 ∷ delivered_bytes d
-unfolding answer_bytes body_bytes ack_bytes
-ack-sample-bytes d = refl
-
 pub no-wire-bytes : answer_bytes (answer.Wire None) ≡ 0x00 ∷ flag_byte false ∷ []
 unfolding answer_bytes body_bytes wire_bytes
 no-wire-bytes = refl
-
-pub wire-sample-bytes : (d : Delivered) → answer_bytes (answer.Wire (Some d)) ≡ 0x00 ∷ delivered_bytes d
-unfolding answer_bytes body_bytes wire_bytes
-wire-sample-bytes d = refl

@@ -43,7 +43,8 @@ sample_bytes u =
     ++ (bytes_of 4 u.observation.request_sequence
     ++ (bytes_of 8 u.observation.observed_at_ms ++ payload_of u.observation.sample))
 
--- 03 invalid settings, 04 overspeed with L and eRPM (2), 05 timeout with four counts (1 each)
+-- 03 invalid settings, 04 overspeed with L and eRPM (2), 05 timeout with four counts (1 each): a list in a definition has no length of its own,
+-- so the four are taken
 unfoldable pub failure_bytes : EscIdleQualificationFailure → List ℕ
 failure_bytes failure.InvalidConfig = 0x03 ∷ []
 failure_bytes (failure.Overspeed output erpm) = 0x04 ∷ lane_of output ∷ bytes_of 2 erpm

@@ -25,7 +25,7 @@ pub struct UnitReport {
 }
 
 // A lane's figures: samples delivered, the largest temperature and the lowest voltage.
-#[derive(Clone, Copy)]
+#[derive(Clone, Copy, Default)]
 pub struct Figure {
     pub samples: u32,
     pub hottest_c: u8,

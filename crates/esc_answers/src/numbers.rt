@@ -56,6 +56,6 @@ impl Encode for EscOutput {
     ghost bytes = { λ output. lane_of output ∷ [] };
 
     fn encode(self, to: &mut AnswerBytes) {
-        to.push(self.index() as u8);
+        to.push(u8::from(self));
     }
 }

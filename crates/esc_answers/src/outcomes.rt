@@ -11,17 +11,16 @@ use esc_idle::{EscIdleQualificationFailure, EscIdleQualificationStatus};
 impl Encode for Option<Delivered> {
     ghost bytes = { wire_bytes };
 
-    // Samples are inlined, since the place of each byte is then known: a session delivers one every few lines.
+    // Samples are inlined, here and in `AckAnswer`, since the place of each byte is then known: a session delivers one every few lines.
     #[inline(always)]
     #[tactic(auto, unfolding(crate::specs::Answer::wire_bytes, crate::specs::Answer::delivered_bytes))]
     fn encode(self, to: &mut AnswerBytes) {
         match self {
             None => to.push(0x00),
             Some(delivered) => {
-                let status = delivered.status;
                 to.push(0x02);
                 delivered.update.encode(to);
-                status.encode(to);
+                delivered.status.encode(to);
             }
         }
     }

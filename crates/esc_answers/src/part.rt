@@ -8,6 +8,7 @@ use crate::answer_bytes::AnswerBytes;
 pub trait Encode {
     ghost bytes: { Self → List ℕ };
 
+    // Puts the part's bytes behind those that are there.
     fn encode(self, to: &mut AnswerBytes)
         requires { length to.old + length (bytes self) ≤ longest_answer }
         ensures { to.new ≡ to.old ++ bytes self };

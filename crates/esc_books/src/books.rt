@@ -41,18 +41,18 @@ impl Books {
     pub fn with_check(self, config: EscIdleQualificationConfig, started_at_ms: u64) -> Books
         ensures { result ≡ checked_by self config started_at_ms }
     {
-        let mut books = self;
-        books.idle = Some(EscIdleQualification::new(config, started_at_ms));
-        books
+        Self {
+            idle: Some(EscIdleQualification::new(config, started_at_ms)),
+            ..self
+        }
     }
 
     // After a recovery: arming needs fresh eRPM from each motor.
     pub fn samples_dropped(self) -> Books
         ensures { result ≡ samples_dropped self }
     {
-        let mut books = self;
-        books.samples = EscSamples::new();
-        books
+        let samples = EscSamples::new();
+        Self { samples, ..self }
     }
 
     // A delivered sample is stored, counted in the figures and shown to the check.
@@ -60,9 +60,11 @@ impl Books {
     pub fn booked(self, update: EscTelemetryUpdate, now_ms: u64) -> Booked
         ensures { result ≡ booked_in self update now_ms }
     {
-        let mut books = self;
-        books.samples = self.samples.stored(update);
-        books.figures = self.figures.with(update);
+        let books = Self {
+            samples: self.samples.stored(update),
+            figures: self.figures.with(update),
+            ..self
+        };
         books.judged(self.idle.map(|idle| idle.observe(update, now_ms)))
     }
 
@@ -78,18 +80,18 @@ impl Books {
     fn judged(self, found: Option<EscIdleJudged>) -> Booked
         ensures { result ≡ if_checking self found }
     {
-        match found {
-            None => Booked {
+        let Some(judged) = found else {
+            return Booked {
                 books: self,
                 status: None,
+            };
+        };
+        Booked {
+            books: Self {
+                idle: Some(judged.idle),
+                ..self
             },
-            Some(judged) => Booked {
-                books: Self {
-                    idle: Some(judged.idle),
-                    ..self
-                },
-                status: Some(judged.status),
-            },
+            status: Some(judged.status),
         }
     }
 

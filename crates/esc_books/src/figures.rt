@@ -45,11 +45,7 @@ impl Figures {
 fn no_figure() -> Figure
     ensures { result ≡ no_figure }
 {
-    Figure {
-        samples: 0,
-        hottest_c: 0,
-        lowest_cv: 0,
-    }
+    Figure::default()
 }
 
 #[tactic(auto, unfolding(crate::specs::Figures::with_sample))]

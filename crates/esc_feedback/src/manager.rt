@@ -78,10 +78,11 @@ impl EscManager {
     pub fn take_back_after_retries(self) -> After<Option<u32>>
         ensures { result ≡ take_back self }
     {
-        let mut manager = self;
-        manager.back_after_retries = None;
         After {
-            manager,
+            manager: Self {
+                back_after_retries: None,
+                ..self
+            },
             answer: self.back_after_retries,
         }
     }

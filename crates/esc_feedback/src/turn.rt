@@ -38,10 +38,8 @@ impl Turn {
     pub fn period_due(self, now_ms: u64, period_ms: u32) -> bool
         ensures { result ≡ period_due self.last_request_ms now_ms period_ms }
     {
-        match self.last_request_ms {
-            None => true,
-            Some(last_ms) => elapsed_at_least(last_ms, now_ms, period_ms),
-        }
+        self.last_request_ms
+            .is_none_or(|last_ms| elapsed_at_least(last_ms, now_ms, period_ms))
     }
 
     // The turn after this one's request was queued.

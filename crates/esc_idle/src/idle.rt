@@ -44,14 +44,13 @@ impl EscIdleQualification {
     pub fn observe(self, update: EscTelemetryUpdate, now_ms: u64) -> EscIdleJudged
         ensures { result ≡ observe_of self update now_ms }
     {
-        let grace_ms = self.config.spinup_grace_ms;
-        match self.standing() {
-            Some(status) => self.decide(status),
-            None if elapsed_at_least(self.started_at_ms, now_ms, grace_ms) => {
-                self.measured(update, now_ms)
-            }
-            None => self.pending(),
+        if let Some(status) = self.standing() {
+            return self.decide(status);
         }
+        if elapsed_at_least(self.started_at_ms, now_ms, self.config.spinup_grace_ms) {
+            return self.measured(update, now_ms);
+        }
+        self.pending()
     }
 
     // 0b: the verdict at a time, with no new sample.
@@ -59,10 +58,10 @@ impl EscIdleQualification {
     pub fn status(self, now_ms: u64) -> EscIdleJudged
         ensures { result ≡ status_of self now_ms }
     {
-        match self.standing() {
-            Some(status) => self.decide(status),
-            None => self.fresh_at(now_ms).weighed(now_ms),
+        if let Some(status) = self.standing() {
+            return self.decide(status);
         }
+        self.fresh_at(now_ms).weighed(now_ms)
     }
 
     // How many samples in a row each lane has within limits.
@@ -76,12 +75,10 @@ impl EscIdleQualification {
     fn standing(self) -> Option<EscIdleQualificationStatus>
         ensures { result ≡ standing self self.verdict }
     {
-        match self.verdict {
-            None if !self.config.is_valid() => Some(EscIdleQualificationStatus::Failed(
-                EscIdleQualificationFailure::InvalidConfig,
-            )),
-            verdict => verdict,
+        if self.verdict.is_some() || self.config.is_valid() {
+            return self.verdict;
         }
+        Some(EscIdleQualificationStatus::Failed(EscIdleQualificationFailure::InvalidConfig))
     }
 
     // The answer to a sample that is not ignored.

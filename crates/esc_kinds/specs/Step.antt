@@ -9,6 +9,7 @@ use Rattle.esc_feedback.specs.Recovery.{try_recover}
 use Rattle.esc_lanes.specs.declared.request.EscTelemetryUpdate.{EscTelemetryUpdate}
 use Rattle.esc_feedback.specs.declared.answer.EscAckOutcome.{EscAckOutcome}
 use Rattle.esc_feedback.specs.declared.answer.EscAckOutcome.TheVariants as outcome
+use Rattle.esc_feedback.specs.declared.config.EscManagerConfig.{EscManagerConfig}
 use Rattle.esc_feedback.specs.declared.manager.EscManager.{EscManager}
 use Rattle.esc_books.specs.Figures.{figure_at}
 use Rattle.esc_books.specs.Books.{no_books, checked_by, samples_dropped, booked_in, idle_status, stored_at}
@@ -20,10 +21,18 @@ use Rattle.esc_answers.specs.declared.answer.Answer.{Answer}
 use Rattle.esc_answers.specs.declared.answer.Answer.TheVariants as answer
 use Rattle.esc_books.specs.declared.books.Books.{Books}
 use Rattle.esc_books.specs.declared.books.Booked.{Booked}
-use Rattle.esc_kinds.specs.declared.kinds.Stepped.{Stepped}
+use Rattle.esc_kinds.specs.declared.opened.Opened.{Opened}
+use Rattle.esc_kinds.specs.declared.opened.Stepped.{Stepped}
+
+abbrev pub opened_with : EscManager → Books → Opened
+opened_with m b = record { manager = m; books = b }
 
 abbrev pub stepped : EscManager → Books → Answer → Stepped
-stepped m b a = record { manager = m; books = b; answer = a }
+stepped m b a = record { opened = opened_with m b; answer = a }
+
+-- 00 starts everything anew
+abbrev pub opening : EscManagerConfig → ℕ → Stepped
+opening c t = stepped (new_manager c t) no_books answer.Done
 
 -- a delivered sample goes to the books, with now the T of 05 or the second T of 03
 abbrev booked_step : (EscTelemetryUpdate → Booked → Answer) → EscManager → Books → EscTelemetryUpdate → ℕ → Stepped
@@ -51,9 +60,9 @@ recovered_on m b false = stepped m b (answer.Decided false)
 abbrev pub report_of : EscManager → UnitReport
 report_of m = record { faulted = is_faulted m; retrying = not (eqb m.fault.retries_without_frame 0); stats = m.stats }
 
--- what each kind of record does, 00 to 0e; 00 starts everything anew
+-- what each kind of record does, 00 to 0e
 unfoldable pub step_of : EscManager → Books → Record → Stepped
-step_of m b (kind.Open c t) = stepped (new_manager c t) no_books answer.Done
+step_of m b (kind.Open c t) = opening c t
 step_of m b (kind.NextRequest now) = stepped m b (answer.Request (next_request m now))
 step_of m b (kind.MarkRequestQueued q now) = stepped (mark_queued m q now).manager b (answer.Decided (mark_queued m q now).answer)
 step_of m b (kind.ActuatorAck k now) = acked_on (on_ack m k).manager b now (on_ack m k).answer

@@ -1,6 +1,6 @@
 // The kinds of records: what each does to the manager and the books, and what it is answered.
 #![tactic(auto)]
 
-mod kinds;
+mod opened;
 
-pub use kinds::{Stepped, step};
+pub use opened::{Opened, Stepped};

@@ -1,6 +1,7 @@
 -- What `==` says of two lanes and of two requests is the rule's.
 use Rattle.std.proofs.Common.{◌≡◌, Bool, true, false, ◌&&◌, eqb, refl}
 use denote.Enum.Bare.{sameb}
+use denote.Enum.Declared.{tag_of}
 use Rattle.base.specs.Choice.{pick}
 use Rattle.esc_lanes.specs.Output.{lane_number, same_output}
 use Rattle.esc_lanes.specs.Request.{same_request}
@@ -10,23 +11,15 @@ use Rattle.esc_lanes.specs.declared.output.Lane.{Lane}
 use Rattle.esc_lanes.specs.declared.output.Lane.TheVariants.{Output1, Output2, Output3, Output4}
 use Rattle.esc_lanes.specs.declared.request.EscActuatorRequest.{EscActuatorRequest}
 
+-- a lane's number is its place among the variants
+number_tag : (l : Lane) → tag_of the_type l ≡ lane_number l
+number_tag Output1 = refl
+number_tag Output2 = refl
+number_tag Output3 = refl
+number_tag Output4 = refl
+
 lane_equal : (a b : Lane) → sameb the_type a b ≡ eqb (lane_number a) (lane_number b)
-lane_equal Output1 Output1 = refl
-lane_equal Output1 Output2 = refl
-lane_equal Output1 Output3 = refl
-lane_equal Output1 Output4 = refl
-lane_equal Output2 Output1 = refl
-lane_equal Output2 Output2 = refl
-lane_equal Output2 Output3 = refl
-lane_equal Output2 Output4 = refl
-lane_equal Output3 Output1 = refl
-lane_equal Output3 Output2 = refl
-lane_equal Output3 Output3 = refl
-lane_equal Output3 Output4 = refl
-lane_equal Output4 Output1 = refl
-lane_equal Output4 Output2 = refl
-lane_equal Output4 Output3 = refl
-lane_equal Output4 Output4 = refl
+lane_equal a b = rw (number_tag a, number_tag b)
 
 both : (sequence output : Bool) → sequence && output ≡ pick sequence output false
 both true o = refl

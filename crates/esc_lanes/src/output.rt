@@ -6,6 +6,7 @@ ghost use Rattle.esc_lanes.specs.Output.{lane_of, output_at, next_output, read_l
 
 use base::Refusal;
 
+// The four lanes, numbered from 0 in this order.
 #[derive(Clone, Copy, PartialEq, Eq)]
 pub enum Lane {
     Output1,
@@ -30,12 +31,7 @@ impl EscOutput {
     pub fn index(self) -> usize
         ensures { result ≡ lane_of self }
     {
-        match self.0 {
-            Lane::Output1 => 0,
-            Lane::Output2 => 1,
-            Lane::Output3 => 2,
-            Lane::Output4 => 3,
-        }
+        self.0 as usize
     }
 
     // The output that stands at `index` in `ALL`; past the last, the first again.
@@ -56,7 +52,16 @@ impl EscOutput {
     }
 }
 
-// A lane's number, or 6 above 3.
+// The number of the lane.
+impl From<EscOutput> for u8 {
+    ghost from_gives = { λ output lane. lane ≡ lane_of output };
+
+    fn from(output: EscOutput) -> u8 {
+        output.0 as u8
+    }
+}
+
+// The lane of a number, or 6 above 3.
 impl TryFrom<u8> for EscOutput {
     type Error = Refusal;
 

@@ -1,20 +1,16 @@
 -- Reading a record, by tests that need not look into the list; and the record of a kind whose bytes are as many as it has.
-use Rattle.std.proofs.Common.{◌≡◌, ℕ, ◌<◌, Bool, true, eqb, ltb, leb, List, [], ◌∷◌, length, get_or, replicate, refl, arith, leb→le, zero-lt-suc}
+use Rattle.std.proofs.Common.{◌≡◌, ℕ, ◌<◌, true, eqb, ltb, leb, List, [], ◌∷◌, length, get_or, refl, arith, zero-lt-suc}
 use borrow.Author.Tests.{eq-eqb, le-leb, lt-ltb}
 use Rattle.base.specs.Choice.{pick}
 use Rattle.base.specs.Reply.{Reply, accepted, refused}
-use Rattle.base.proofs.Table.{at}
 use Rattle.esc_records.specs.Record.{width_of, lane_fits, flag_fits, record_of, read_record, last_kind}
 use Rattle.esc_records.specs.Whole.{Whole}
 use Rattle.esc_records.specs.declared.record.Record.{Record}
+use Rattle.esc_records.proofs.LayoutLaws.{ends_at}
 
--- each kind has a byte at least
-some : ℕ → ℕ → Bool
-some k _ = leb 1 (width_of k)
-
+-- the kind at least stands in front of where the fields end
 whole-some : (s : List ℕ) → Whole s → 0 < length s
-unfolding some
-whole-some s w = omega (arith, w.width, leb→le 1 _ (at some (replicate 15 0) tt (get_or s 0 0) (omega (arith, w.known))))
+whole-some s w = omega (arith, w.width, ends_at (get_or s 0 0) w.known)
 
 -- what is read of a record whose kind and length are right
 unfoldable pub whole_reply : List ℕ → Reply Record

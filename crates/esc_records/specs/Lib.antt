@@ -1,5 +1,6 @@
--- Read in this order: records with their refusals; what the reader leaves; what a whole record has; whether a record is taken.
+-- Read in this order: records with their refusals; how wide their fields are; what the reader leaves; what a whole record has; whether a record is taken.
 pub mod Record
+pub mod Layout
 pub mod Reader
 pub mod Whole
 pub mod Admission

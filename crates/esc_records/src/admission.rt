@@ -12,11 +12,10 @@ pub fn admit(opened: bool, bytes: &[u8]) -> Result<Record, Refusal>
     ensures { replied result ≡ admitted_of opened bytes.now }
 {
     let read = read_record(bytes)?;
-    if takes(opened, read) {
-        Ok(read)
-    } else {
-        Err(Refusal::Unopened)
+    if !takes(opened, read) {
+        return Err(Refusal::Unopened);
     }
+    Ok(read)
 }
 
 // Whether a record is taken: the unit is open, or the record opens it.

@@ -73,7 +73,7 @@ pub enum Record {
 }
 
 // How many bytes a record of each kind has, its kind among them.
-const RECORD_LENS: [usize; 15] = [29, 9, 14, 22, 9, 10, 1, 10, 1, 1, 26, 9, 1, 2, 2];
+static RECORD_LENS: [usize; 15] = [29, 9, 14, 22, 9, 10, 1, 10, 1, 1, 26, 9, 1, 2, 2];
 
 // The record that the bytes are, or why they are none: the first that fits of kind, length, lane and flag.
 #[tactic(auto, using(crate::proofs::RecordLaws::read_tests))]

@@ -1,38 +1,26 @@
--- The unit: one manager and its books, a record's way into it, and a call (document 01, 'Records').
-use Rattle.std.specs.Prelude.{ℕ, true, false, ◌||◌, List, leb, length}
+-- The unit: one manager and its books once it was opened, a record's way into it, and a call (document 01, 'Records').
+use Rattle.std.specs.Prelude.{ℕ, List, Option, Some, None, leb, length}
 use Rattle.base.specs.Choice.{pick}
 use Rattle.base.specs.Reply.{Reply, accepted, refused}
 use Rattle.base.specs.BigEndian.{overwrite}
-use Rattle.esc_feedback.specs.Manager.{new_manager}
-use Rattle.esc_feedback.specs.declared.config.EscManagerConfig.{EscManagerConfig}
 use Rattle.esc_feedback.specs.declared.manager.EscManager.{EscManager}
 use Rattle.esc_records.specs.Record.{read_record}
-use Rattle.esc_records.specs.Admission.{opens}
 use Rattle.esc_answers.specs.Answer.{answer_bytes}
-use Rattle.esc_books.specs.Books.{no_books}
 use Rattle.esc_records.specs.declared.record.Record.{Record}
+use Rattle.esc_records.specs.declared.record.Record.TheVariants as kind
 use Rattle.esc_answers.specs.declared.answer.Answer.{Answer}
 use Rattle.esc_books.specs.declared.books.Books.{Books}
-use Rattle.esc_kinds.specs.Step.{step_of}
+use Rattle.esc_kinds.specs.Step.{opened_with, opening, step_of}
+use Rattle.esc_kinds.specs.declared.opened.Opened.{Opened}
 use Rattle.esc_unit.specs.declared.unit.Unit.{Unit}
-use Rattle.esc_kinds.specs.declared.kinds.Stepped.{Stepped}
+use Rattle.esc_kinds.specs.declared.opened.Stepped.{Stepped}
 
--- settings that nothing asks: the unit was never opened
-abbrev no_manager_settings : EscManagerConfig
-no_manager_settings =
-    record {
-      boot_delay_ms = 0;
-      request_period_ms = 0;
-      actuator_ack_timeout_ms = 0;
-      telemetry_response_timeout_ms = 0;
-      recovery_quiet_ms = 0;
-    }
-
+-- no record gave it anything yet
 abbrev pub never_opened : Unit
-never_opened = record { opened = false; manager = new_manager no_manager_settings 0; books = no_books }
+never_opened = record { opened = None }
 
 abbrev pub unit_of : EscManager → Books → Unit
-unit_of m b = record { opened = true; manager = m; books = b }
+unit_of m b = record { opened = Some (opened_with m b) }
 
 -- a unit and its reply
 pub record Replied : Type 0 where
@@ -44,11 +32,33 @@ abbrev pub refusing : Unit → ℕ → Replied
 refusing u n = record { unit = u; reply = refused n }
 
 abbrev pub accepting : Stepped → Replied
-accepting s = record { unit = unit_of s.manager s.books; reply = accepted s.answer }
+accepting s = record { unit = record { opened = Some s.opened }; reply = accepted s.answer }
 
 -- 8: any kind but 00 before the first accepted 00
+abbrev pub enter_first : Record → Replied
+enter_first (kind.Open c t) = accepting (opening c t)
+enter_first (kind.NextRequest now) = refusing never_opened 8
+enter_first (kind.MarkRequestQueued q now) = refusing never_opened 8
+enter_first (kind.ActuatorAck k now) = refusing never_opened 8
+enter_first (kind.PollTimeout now) = refusing never_opened 8
+enter_first (kind.WireByte x now) = refusing never_opened 8
+enter_first kind.WireDiscontinuity = refusing never_opened 8
+enter_first (kind.TryRecover armed now) = refusing never_opened 8
+enter_first kind.TakeBackAfterRetries = refusing never_opened 8
+enter_first kind.RefreshWireStats = refusing never_opened 8
+enter_first (kind.IdleCheck c t) = refusing never_opened 8
+enter_first (kind.IdleStatus now) = refusing never_opened 8
+enter_first kind.Report = refusing never_opened 8
+enter_first (kind.StoredSample o) = refusing never_opened 8
+enter_first (kind.Figures o) = refusing never_opened 8
+
+-- once it was opened, every kind is taken
+abbrev pub enter_in : Option Opened → Record → Replied
+enter_in None r = enter_first r
+enter_in (Some o) r = accepting (step_of o.manager o.books r)
+
 unfoldable pub enter : Unit → Record → Replied
-enter u r = pick (u.opened || opens r) (accepting (step_of u.manager u.books r)) (refusing u 8)
+enter u r = enter_in u.opened r
 
 -- 9: lent output shorter than what is written
 abbrev pub if_room : Unit → ℕ → Replied → Reply Answer → Replied

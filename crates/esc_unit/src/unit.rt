@@ -1,23 +1,19 @@
-// The unit: one manager and its books, one call for each record.
+// The unit: nothing before its first 00, then one manager and its books. One call for each record.
 mod call;
 
 ghost use Rattle.std.specs.Prelude.{◌≡◌};
-ghost use Rattle.esc_unit.specs.Unit.{never_opened, unit_of, enter};
+ghost use Rattle.esc_unit.specs.Unit.{never_opened, accepting, enter};
 ghost use Rattle.esc_unit.specs.Replies.{step_replied};
 
 use base::Refusal;
 use esc_answers::Answer;
-use esc_books::Books;
-use esc_feedback::{EscManager, EscManagerConfig};
-use esc_kinds::step;
-use esc_records::{Record, takes};
+use esc_kinds::{Opened, Stepped};
+use esc_records::Record;
 
-// Its parts are public, so that a loop over records can change in place what a record touches.
+// What was opened is public, so that a loop over records can change in place what a record touches.
 #[derive(Clone, Copy)]
 pub struct Unit {
-    pub opened: bool,
-    pub manager: EscManager,
-    pub books: Books,
+    pub opened: Option<Opened>,
 }
 
 // The unit after a record, or as found where the record is refused; and the reply.
@@ -28,22 +24,11 @@ pub struct Called<A> {
 }
 
 impl Unit {
-    // Never opened: the manager's settings are never asked for.
+    // Never opened: it has no manager, since no record gave the settings of one.
     pub fn new() -> Self
         ensures { result ≡ never_opened }
     {
-        let config = EscManagerConfig {
-            boot_delay_ms: 0,
-            request_period_ms: 0,
-            actuator_ack_timeout_ms: 0,
-            telemetry_response_timeout_ms: 0,
-            recovery_quiet_ms: 0,
-        };
-        Self {
-            opened: false,
-            manager: EscManager::new(config, 0),
-            books: Books::new(),
-        }
+        Self { opened: None }
     }
 
     // Before the first 00 every other kind is refused.
@@ -51,27 +36,31 @@ impl Unit {
     pub fn step(self, record: Record) -> Called<Answer>
         ensures { step_replied result ≡ enter self «record» }
     {
-        if takes(self.opened, record) {
-            let stepped = step(self.manager, self.books, record);
-            return Called {
-                unit: opened_unit(stepped.manager, stepped.books),
-                reply: Ok(stepped.answer),
-            };
-        }
-        Called {
-            unit: self,
-            reply: Err(Refusal::Unopened),
+        match (self.opened, record) {
+            (Some(opened), _) => accepted(opened.step(record)),
+            (
+                None,
+                Record::Open {
+                    config,
+                    boot_started_ms,
+                },
+            ) => accepted(Opened::start(config, boot_started_ms)),
+            (None, _) => Called {
+                unit: self,
+                reply: Err(Refusal::Unopened),
+            },
         }
     }
 }
 
-// The unit once its first 00 was taken.
-pub(crate) fn opened_unit(manager: EscManager, books: Books) -> Unit
-    ensures { result ≡ unit_of manager books }
+// The unit that a step leaves, and its answer.
+fn accepted(stepped: Stepped) -> Called<Answer>
+    ensures { step_replied result ≡ accepting stepped }
 {
-    Unit {
-        opened: true,
-        manager,
-        books,
+    Called {
+        unit: Unit {
+            opened: Some(stepped.opened),
+        },
+        reply: Ok(stepped.answer),
     }
 }

@@ -1,13 +1,10 @@
 -- Printing bytes as a line: its length, and a byte's two characters more.
-use mathlib.Core.Path.{◌≡◌, refl, ap, sym, ◌∙◌}
-use mathlib.Core.List.{List, [], ◌∷◌, ◌++◌}
-use Prim.Native.Nat.{ℕ, ◌+◌, ◌*◌, ◌/◌, ◌%◌, ◌≤◌, ◌<◌}
-use native.Mathlib.Omega.{arith}
-use native.Mathlib.Numerals.{add-one}
-use lib.ListN.{length, get_or, set, take, length-append}
-use lib.Seq.{take-suc, take_all, length-take-le}
+use Rattle.std.proofs.Common.{◌≡◌, ℕ, ◌+◌, ◌-◌, ◌*◌, ◌/◌, ◌%◌, ◌≤◌, ◌<◌, List, [], ◌∷◌, ◌++◌, length, get_or, take, refl, ap, sym, ◌∙◌}
+use Rattle.std.proofs.Common.{arith, add-one, take-suc, length-append}
+use lib.Seq.{take_all}
 use Rattle.base.specs.BigEndian.{overwrite}
-use Rattle.base.proofs.BigEndianLaws.{overwrite-append, overwrite-set, overwrite-two}
+use Rattle.base.proofs.BigEndianLaws.{overwrite-append}
+use Rattle.base.proofs.PutLaws.{overwrite-none}
 use Rattle.hex_lines.specs.Digit.{glyph_of}
 use Rattle.hex_lines.specs.Line.{hex_of, printed_line}
 
@@ -25,34 +22,40 @@ unfolding hex_of
 hex-append [] b = refl
 hex-append (x ∷ a) b = ap (λ (t : List ℕ). glyph_of (x / 16) ∷ glyph_of (x % 16) ∷ t) (hex-append a b)
 
-module _ (bytes : List ℕ) (i : ℕ) where
-  shown : i ≤ length bytes → length (hex_of (take i bytes)) ≡ 2 * i
-  shown h = hex-length (take i bytes) ∙ ap (λ (n : ℕ). 2 * n) (length-take-le i bytes h)
+-- the characters of the first i bytes stand from a place on, in an output that has room for the rest of the line
+pub record Shown (bytes out₀ : List ℕ) (at i end : ℕ) (out : List ℕ) : Type 0 where
+  pub room : end + (2 * (length bytes - i) + 1) ≤ length out₀
+  pub place : end ≡ at + length (hex_of (take i bytes))
+  pub text : out ≡ overwrite at (hex_of (take i bytes)) out₀
 
-  hex-more : i < length bytes
-      → hex_of (take (i + 1) bytes) ≡ hex_of (take i bytes) ++ glyph_of (get_or bytes i 0 / 16) ∷ glyph_of (get_or bytes i 0 % 16) ∷ []
+pub shown_none : (bytes out₀ : List ℕ) (at : ℕ) → at + (2 * length bytes + 1) ≤ length out₀ → Shown bytes out₀ at 0 at out₀
+unfolding hex_of
+shown_none bytes out₀ at room = record { room = omega arith; place = omega arith; text = sym (overwrite-none at out₀) }
+
+module _ {bytes out₀ : List ℕ} {at i end : ℕ} {out : List ℕ} (k : Shown bytes out₀ at i end out) where
+  -- a byte more
+  pub shown_more : (out' : List ℕ) (x y : ℕ) → i < length bytes → x ≡ glyph_of (get_or bytes i 0 / 16) → y ≡ glyph_of (get_or bytes i 0 % 16)
+      → out' ≡ overwrite end (x ∷ y ∷ []) out → Shown bytes out₀ at (i + 1) (end + 2) out'
   unfolding hex_of
-  hex-more h = rw (add-one i, take-suc bytes i 0 h) (hex-append (take i bytes) (get_or bytes i 0 ∷ []))
+  shown_more out' x y h ex ey o =
+      let more : hex_of (take (i + 1) bytes) ≡ hex_of (take i bytes) ++ x ∷ y ∷ [] =
+      rw (add-one i, take-suc bytes i 0 h, ex, ey) (hex-append (take i bytes) (get_or bytes i 0 ∷ [])) in
+      record {
+        room = omega (arith, k.room);
+        place = rw (more, length-append) (omega (arith, k.place));
+        text =
+            o ∙ rw (more, k.text)
+            (overwrite-append at end (hex_of (take i bytes)) (x ∷ y ∷ []) out₀ (sym k.place) (omega (arith, k.room)));
+      }
 
-  -- the two stores of one turn
-  pub print-more : (out₀ out : List ℕ) (at next x y : ℕ) → i < length bytes → next ≡ at + 2 * i → next + 2 ≤ length out₀
-      → length out ≡ length out₀ → x ≡ glyph_of (get_or bytes i 0 / 16) → y ≡ glyph_of (get_or bytes i 0 % 16)
-      → out ≡ overwrite at (hex_of (take i bytes)) out₀
-      → set (set out next x) (next + 1) y ≡ overwrite at (hex_of (take (i + 1) bytes)) out₀
-  print-more out₀ out at next x y h en room l ex ey e =
-      let n : at + length (hex_of (take i bytes)) ≡ next = omega (arith, shown (omega arith)) in
-      let r : next + 2 ≤ length out = omega arith in
-      sym (overwrite-two next x y out r)
-      ∙ rw (e, hex-more h, ex, ey)
-      (overwrite-append at next (hex_of (take i bytes)) (glyph_of (get_or bytes i 0 / 16) ∷ glyph_of (get_or bytes i 0 % 16) ∷ []) out₀ n room)
-
-  -- the store of the line's end
-  pub print-end : (out₀ out : List ℕ) (at next : ℕ) → length bytes ≤ i → next ≡ at + 2 * length bytes → next + 1 ≤ length out₀
-      → length out ≡ length out₀ → out ≡ overwrite at (hex_of (take i bytes)) out₀
-      → set out next 0x0a ≡ overwrite at (printed_line bytes) out₀
+  -- the line's end
+  pub shown_all : (out' : List ℕ) → length bytes ≤ i → out' ≡ overwrite end (0x0a ∷ []) out
+      → (end + 1 ≡ at + length (printed_line bytes)) × (out' ≡ overwrite at (printed_line bytes) out₀)
   unfolding printed_line
-  print-end out₀ out at next h en room l e =
-      let n : at + length (hex_of bytes) ≡ next = omega (arith, hex-length bytes) in
-      let r : next < length out = omega arith in
-      let all : out ≡ overwrite at (hex_of bytes) out₀ = rw (← take_all i bytes h) e in
-      sym (overwrite-set next 0x0a out r) ∙ rw all (overwrite-append at next (hex_of bytes) (0x0a ∷ []) out₀ n room)
+  shown_all out' h o =
+      let all = take_all i bytes h in
+      let place : end ≡ at + length (hex_of bytes) = rw all at k.place in
+      let text : out ≡ overwrite at (hex_of bytes) out₀ = rw all at k.text in (
+        omega (arith, length-append (hex_of bytes) (0x0a ∷ [])),
+        o ∙ rw text (overwrite-append at end (hex_of bytes) (0x0a ∷ []) out₀ (sym place) (omega (arith, k.room))),
+      )

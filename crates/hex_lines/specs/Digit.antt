@@ -1,5 +1,5 @@
 -- The digits of a line (document 01): 0-9 and a-f when it is read, and the same when it is printed.
-use Rattle.std.specs.Prelude.{ℕ, ◌+◌, ◌*◌, ◌-◌, ◌<◌, ◌≡◌, Bool, ◌&&◌, List, Option, Some, None, nat_le, nat_lt, slice_index}
+use Rattle.std.specs.Prelude.{ℕ, ◌+◌, ◌*◌, ◌-◌, ◌<◌, ◌≡◌, Bool, ◌&&◌, List, Option, Some, None, nat_le, nat_lt, slice_index_or}
 use Rattle.base.specs.Choice.{pick}
 
 abbrev between : ℕ → ℕ → ℕ → Bool
@@ -20,6 +20,10 @@ pair_of c d = pick (is_digit c && is_digit d) (Some (digit_of c * 16 + digit_of 
 unfoldable pub glyph_of : ℕ → ℕ
 glyph_of v = pick (nat_lt v 10) (v + 0x30) (v - 10 + 0x61)
 
+-- the value of a digit; none of any other character
+unfoldable pub value_of : ℕ → Option ℕ
+value_of c = pick (is_digit c) (Some (digit_of c)) None
+
 -- a table of digits: at each character stands its value
-pub record DigitTabled (table : List ℕ) : Type 0 where
-  pub rule : (c : ℕ) → c < 256 → slice_index table c ≡ digit_of c
+pub record DigitTabled (table : List (Option ℕ)) : Type 0 where
+  pub rule : (c : ℕ) → c < 256 → slice_index_or table c None ≡ value_of c

@@ -1,6 +1,7 @@
 -- A line of hexadecimal characters and the bytes that it stands for (document 01, 'Numbers handed back', 1 to 3).
-use Rattle.std.specs.Prelude.{ℕ, ◌+◌, ◌*◌, ◌/◌, ◌%◌, ◌≡◌, ◌≤◌, Bool, true, ◌&&◌, List, [], ◌∷◌, ◌++◌, nat_eq, nat_le, length, take, slice_index}
+use Rattle.std.specs.Prelude.{ℕ, ◌+◌, ◌*◌, ◌/◌, ◌%◌, ◌≡◌, ◌≤◌, Bool, true, ◌&&◌, List, [], ◌∷◌, ◌++◌, nat_eq, nat_le, length, slice_index}
 use Rattle.std.specs.Prelude.{Result, Ok, Err, None}
+use Rattle.std.specs.Borrow.{Bor}
 use Rattle.base.specs.Choice.{pick}
 use Rattle.base.specs.Reply.{Reply, accepted, refused, refusal_number}
 use Rattle.base.specs.declared.refusal.Refusal.{Refusal}
@@ -48,18 +49,19 @@ hex_of (b ∷ bytes) = glyph_of (b / 16) ∷ glyph_of (b % 16) ∷ hex_of bytes
 unfoldable pub printed_line : List ℕ → List ℕ
 printed_line bytes = hex_of bytes ++ line_end ∷ []
 
--- how a line is read, where its bytes are put in front of a buffer and it is told how many they are
-abbrev pub line_read : Result ℕ Refusal → List ℕ → Reply (List ℕ)
-line_read (Ok n) buffer = accepted (take n buffer)
-line_read (Err refusal) buffer = refused (refusal_number refusal)
+-- how a line is read, where its bytes are lent
+abbrev pub line_read : Result (Bor (List ℕ)) Refusal → Reply (List ℕ)
+line_read (Ok bytes) = accepted bytes.now
+line_read (Err refusal) = refused (refusal_number refusal)
 
--- n bytes stand in front of a buffer, which the first 2 n characters of a text stand for
-pub record PairsRead (text : List ℕ) (n : ℕ) (buffer : List ℕ) : Type 0 where
-  pub fits : n ≤ longest_record
-  pub within : 2 * n ≤ length text
-  pub digits : all_digits (take (2 * n) text) ≡ true
-  pub put : take n buffer ≡ pairs (take (2 * n) text)
+-- a text is digits, two by two the ones of these bytes, and a rest
+pub record PairsRead (text bytes rest : List ℕ) : Type 0 where
+  pub front : List ℕ
+  pub parts : text ≡ front ++ rest
+  pub digits : all_digits front ≡ true
+  pub read : pairs front ≡ bytes
+  pub even : length front ≡ 2 * length bytes
 
--- no two digits follow
-abbrev pub NoPairAt : List ℕ → ℕ → Type 0
-NoPairAt text place = place + 2 ≤ length text → pair_of (slice_index text place) (slice_index text (place + 1)) ≡ None
+-- no two digits stand in front
+abbrev pub NoPairBegins : List ℕ → Type 0
+NoPairBegins rest = 2 ≤ length rest → pair_of (slice_index rest 0) (slice_index rest 1) ≡ None

@@ -41,6 +41,7 @@ impl HeldLine {
     }
 
     // Holds more of the line, as much as there is room for.
+    #[tactic(auto, using(crate::proofs::HeldLaws::held_more))]
     pub(crate) fn hold(&mut self, more: &[u8])
         ensures { held_characters self.new ≡ take most_held (held_characters self.old ++ more.now) }
     {

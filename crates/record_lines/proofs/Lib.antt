@@ -1,2 +1,3 @@
 -- A line with a wire byte; the next line's record is proved beside its function.
+pub mod NumberSteps
 pub mod WireRead

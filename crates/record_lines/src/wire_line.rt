@@ -1,15 +1,18 @@
 // A line with a wire byte, as most lines of a session are: it is read straight into its numbers.
 ghost use Rattle.std.specs.Prelude.{IfSome};
 ghost use Rattle.hex_lines.specs.HeldLine.{held_characters};
-ghost use Rattle.record_lines.specs.WireLine.{WireAt, CollectedAt};
+ghost use Rattle.record_lines.specs.WireLine.{WireAt, NumberRead, CollectedAt};
 
 use blheli_telemetry::StreamParser;
 use hex_lines::digits::Digits;
 use hex_lines::held_line::HeldLine;
 use hex_lines::line::LINE_END;
 
-// How many characters it has: two of the kind, two of the byte, sixteen of the time.
-pub const WIRE_LINE: usize = 20;
+// How many characters the time has.
+const TIME: usize = 16;
+
+// How many characters the line has: two of the kind, two of the byte, and those of the time.
+pub const WIRE_LINE: usize = 4 + TIME;
 
 // The byte, and its time.
 #[derive(Clone, Copy)]
@@ -18,39 +21,46 @@ pub struct WireByte {
     pub at_ms: u64,
 }
 
-// The byte at the front of a chunk, where it is a line of its own and the parser of an opened unit only
-// collects it: it then moves nothing but the parser and the fault's quiet time.
+// The byte at the front of a chunk, where it is a line of its own and the parser only collects it: it then moves
+// nothing but the parser and the fault's quiet time.
 pub fn collected_byte(
     digits: &Digits,
     chunk: &[u8],
     line: &HeldLine,
-    opened: bool,
     parser: StreamParser,
 ) -> Option<WireByte>
-    ensures { IfSome result (CollectedAt (held_characters line.now) opened parser chunk.now) }
+    ensures { IfSome result (CollectedAt (held_characters line.now) parser chunk.now) }
 {
-    if line.is_empty() && opened && parser.collects() {
+    if line.is_empty() && parser.collects() {
         wire_line(digits, chunk)
     } else {
         None
     }
 }
 
+// A byte's line: 05, the byte, its time and LF.
 fn wire_line(digits: &Digits, chunk: &[u8]) -> Option<WireByte>
     ensures { IfSome result (WireAt chunk.now) }
 {
-    if chunk.len() <= WIRE_LINE || chunk[WIRE_LINE] != LINE_END {
+    let [b'0', b'5', high, low, rest @ ..] = chunk else {
         return None;
-    }
-    if chunk[0] != b'0' || chunk[1] != b'5' {
+    };
+    let (time, [LINE_END, ..]) = rest.split_first_chunk::<TIME>()? else {
         return None;
+    };
+    Some(WireByte {
+        byte: digits.pair(*high, *low)?,
+        at_ms: number(digits, time)?,
+    })
+}
+
+// The number that the digits of a time stand for.
+fn number(digits: &Digits, text: &[u8; TIME]) -> Option<u64>
+    ensures { IfSome result (NumberRead text.now) }
+{
+    let mut number: u64 = 0;
+    for &[high, low] in text.as_chunks::<2>().0 {
+        number = number * 256 + u64::from(digits.pair(high, low)?);
     }
-    let byte = digits.pair(chunk[2], chunk[3])?;
-    let mut at_ms: u64 = 0;
-    for read in 0..8 {
-        let place = 4 + 2 * read;
-        let next = digits.pair(chunk[place], chunk[place + 1])?;
-        at_ms = at_ms * 256 + u64::from(next);
-    }
-    Some(WireByte { byte, at_ms })
+    Some(number)
 }

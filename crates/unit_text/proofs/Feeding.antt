@@ -190,11 +190,11 @@ module _ {s : Streamed} {chunk out₀ : List ℕ} {unit : Unit} {begun out : Lis
             rest = omega (arith, k.rest, taken-after);
           }
 
--- a line whose record was refused or taken, answered and printed
+-- a line that was read, answered and printed
 pub feeding-record : {s : Streamed} {chunk out₀ : List ℕ} {unit : Unit} {begun out : List ℕ} {used written : ℕ}
     {ended : EndedRecord} {unit' : Unit} {said : List ℕ} {written' : ℕ} {out' : List ℕ}
     → Feeding s chunk out₀ unit begun out used written → longest_line ≤ length out₀ - written
-    → RecordEnded unit.opened begun (drop used chunk) ended
+    → RecordEnded begun (drop used chunk) ended
     → Answers unit (read_line (begun ++ first_line (drop used chunk))) unit' said → LinePut said written out written' out'
     → length out' ≡ length out
     → Feeding s chunk out₀ unit' [] out' (used + ended.behind) written'

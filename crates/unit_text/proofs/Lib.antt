@@ -10,4 +10,4 @@ pub mod LineTurn
 pub mod Feeding
 pub mod FedLaws
 pub mod FinishLaws
-pub mod Passing
+pub mod PieceLaws

@@ -61,3 +61,6 @@ says (c ∷ text) u line = says-by text (says text) u line c (eqb c line_end) re
 pub streamed-session : (text : List ℕ) → printed at_start text ++ printed_at_end (after at_start text) ≡ session_text text
 unfolding session_text
 streamed-session text = says text at_start.unit []
+
+-- the same, as the search finds it
+pub ruleset whole_text = (streamed-session)

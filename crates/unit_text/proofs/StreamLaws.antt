@@ -1,13 +1,12 @@
 -- A stream of characters: it does not matter in which chunks they come.
-use mathlib.Core.Path.{◌≡◌, refl, sym}
+use mathlib.Core.Path.{◌≡◌, refl}
 use mathlib.Core.Bool.{Bool, true, false}
 use mathlib.Core.List.{List, [], ◌∷◌, ◌++◌, append_assoc}
-use Prim.Native.Nat.{ℕ, ◌+◌, ◌≤◌}
+use Prim.Native.Nat.{ℕ, ◌≤◌}
 use native.Mathlib.Omega.{arith}
 use borrow.Author.Tests.{eq-eqb, ne_eqb}
 use lib.Dec.{eqb}
-use lib.ListN.{length, take, drop}
-use lib.Seq.{take-add}
+use lib.ListN.{length, take}
 use Rattle.base.specs.Choice.{pick}
 use Rattle.esc_answers.specs.Answer.{reply_bytes}
 use Rattle.esc_unit.specs.declared.unit.Unit.{Unit}
@@ -31,9 +30,6 @@ pub printed-append : (s : Streamed) (a b : List ℕ) → printed s (a ++ b) ≡ 
 unfolding after printed
 printed-append s [] b = refl
 printed-append s (c ∷ a) b = rw (printed-append (after_one s c) a b, append_assoc (printed_at s c))
-
-pub after_on : (s t : Streamed) (text : List ℕ) (a b : ℕ) → t ≡ after s (take a text) → after t (take b (drop a text)) ≡ after s (take (a + b) text)
-after_on s t text a b e = rw (take-add a b text, e) (sym (after-append s (take a text) (take b (drop a text))))
 
 -- at a character, by whether it ends the line
 module _ (s : Streamed) (c : ℕ) where

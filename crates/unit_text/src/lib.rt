@@ -3,7 +3,7 @@
 #![tactic(auto)]
 
 mod answer;
-mod piece;
+mod pieces;
 mod stream;
 mod whole_session;
 

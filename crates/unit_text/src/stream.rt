@@ -6,11 +6,11 @@ ghost use Rattle.base.specs.Reply.{replied};
 ghost use Rattle.unit_text.specs.Stream.{at_start, feed_of, fed_output, printed_at_end};
 ghost use Rattle.unit_text.specs.Streams.{streamed, fed};
 
-use crate::answer::{print_answer, print_flag, print_refusal};
+use crate::answer::{print_answer, print_called, print_flag, print_refusal};
 use base::{Refusal, hand};
 use esc_answers::{AckAnswer, Delivered, encode};
 use esc_feedback::EscAckOutcome;
-use esc_kinds::step;
+use esc_kinds::Opened;
 use esc_records::Record;
 use esc_unit::Unit;
 use hex_lines::digits::Digits;
@@ -54,111 +54,104 @@ impl Stream {
         ensures out_after { out.new ≡ fed_output (streamed self) chunk.now out.old }
     {
         let digits = Digits::new();
-        // The unit's parts are variables, and the kinds of a flight are arms of this loop, so that a line moves
+        // The unit's parts are changed where they stand, and the kinds of a flight are arms of this loop, so that a line moves
         // only what it touches: with an arm in a function of its own the whole takes longer (docs/PERFORMANCE.md).
-        let mut opened = self.unit.opened;
-        let mut manager = self.unit.manager;
-        let mut books = self.unit.books;
+        let mut unit = self.unit;
         let mut line = self.line;
         let mut used: usize = 0;
         let mut written: usize = 0;
-        while used < chunk.len() {
-            if out.len() - written < LONGEST_LINE {
-                break;
-            }
+        while used < chunk.len() && LONGEST_LINE <= out.len() - written {
             // A byte that the parser only collects stands in its line, and is taken from there.
-            let parser = manager.parser;
-            let collected = collected_byte(&digits, &chunk[used..], &line, opened, parser);
-            if let Some(wire) = collected {
-                manager.parser = parser.collected(wire.byte);
-                manager.fault = manager.fault.heard(wire.at_ms);
-                written = print_flag(false, out, written);
-                used += WIRE_LINE + 1;
-                continue;
+            if let Some(Opened { manager, .. }) = &mut unit.opened {
+                if let Some(wire) = collected_byte(&digits, &chunk[used..], &line, manager.parser) {
+                    manager.parser = manager.parser.collected(wire.byte);
+                    manager.fault = manager.fault.heard(wire.at_ms);
+                    written = print_flag(false, out, written);
+                    used += WIRE_LINE + 1;
+                    continue;
+                }
             }
             // Else the next line is read, or what the chunk has of it is held for the next chunk.
-            let Some(ended) = next_record(&digits, &chunk[used..], &mut line, opened) else {
+            let Some(ended) = next_record(&digits, &chunk[used..], &mut line) else {
                 used = chunk.len();
                 break;
             };
             used += ended.behind;
-            match ended.record {
+            let record = match ended.record {
+                Ok(record) => record,
                 Err(refusal) => {
                     written = print_refusal(refusal, out, written);
+                    continue;
                 }
-                Ok(record) => {
-                    opened = true;
-                    // Its kind's arm: the manager is called, and what it answers is printed.
-                    match record {
-                        Record::NextRequest { now_ms } => {
-                            let request = manager.next_request(now_ms);
-                            written = print_answer(&encode(request), out, written);
+            };
+            match (&mut unit.opened, record) {
+                (Some(Opened { manager, .. }), Record::NextRequest { now_ms }) => {
+                    let request = manager.next_request(now_ms);
+                    written = print_answer(&encode(request), out, written);
+                }
+                (Some(Opened { manager, .. }), Record::MarkRequestQueued { request, now_ms }) => {
+                    let marked = manager.mark_request_queued(request, now_ms);
+                    *manager = marked.manager;
+                    written = print_flag(marked.answer, out, written);
+                }
+                (Some(Opened { manager, books }), Record::ActuatorAck { ack, now_ms }) => {
+                    let acked = manager.on_actuator_ack(ack);
+                    *manager = acked.manager;
+                    match acked.answer {
+                        EscAckOutcome::Rejected => {
+                            written = print_flag(false, out, written);
                         }
-                        Record::MarkRequestQueued { request, now_ms } => {
-                            let marked = manager.mark_request_queued(request, now_ms);
-                            manager = marked.manager;
-                            written = print_flag(marked.answer, out, written);
+                        EscAckOutcome::Accepted => {
+                            written = print_flag(true, out, written);
                         }
-                        Record::ActuatorAck { ack, now_ms } => {
-                            let acked = manager.on_actuator_ack(ack);
-                            manager = acked.manager;
-                            match acked.answer {
-                                EscAckOutcome::Rejected => {
-                                    written = print_flag(false, out, written);
-                                }
-                                EscAckOutcome::Accepted => {
-                                    written = print_flag(true, out, written);
-                                }
-                                EscAckOutcome::Sample(update) => {
-                                    let booked = books.booked(update, now_ms);
-                                    books = booked.books;
-                                    let status = booked.status;
-                                    let sample = AckAnswer::Sample(Delivered { update, status });
-                                    written = print_answer(&encode(sample), out, written);
-                                }
-                            }
-                        }
-                        Record::PollTimeout { now_ms } => {
-                            let polled = manager.poll_timeout(now_ms);
-                            manager = polled.manager;
-                            written = print_answer(&encode(polled.answer), out, written);
-                        }
-                        Record::WireByte {
-                            byte,
-                            observed_at_ms,
-                        } => {
-                            let received = manager.push_wire_byte(byte, observed_at_ms);
-                            manager = received.manager;
-                            match received.answer {
-                                None => {
-                                    written = print_flag(false, out, written);
-                                }
-                                Some(update) => {
-                                    let booked = books.booked(update, observed_at_ms);
-                                    books = booked.books;
-                                    let status = booked.status;
-                                    let sample = Some(Delivered { update, status });
-                                    written = print_answer(&encode(sample), out, written);
-                                }
-                            }
-                        }
-                        // Any other kind goes by `step`.
-                        _ => {
-                            let stepped = step(manager, books, record);
-                            manager = stepped.manager;
-                            books = stepped.books;
-                            written = print_answer(&encode(stepped.answer), out, written);
+                        EscAckOutcome::Sample(update) => {
+                            let booked = books.booked(update, now_ms);
+                            *books = booked.books;
+                            let sample = AckAnswer::Sample(Delivered {
+                                update,
+                                status: booked.status,
+                            });
+                            written = print_answer(&encode(sample), out, written);
                         }
                     }
+                }
+                (Some(Opened { manager, .. }), Record::PollTimeout { now_ms }) => {
+                    let polled = manager.poll_timeout(now_ms);
+                    *manager = polled.manager;
+                    written = print_answer(&encode(polled.answer), out, written);
+                }
+                (
+                    Some(Opened { manager, books }),
+                    Record::WireByte {
+                        byte,
+                        observed_at_ms,
+                    },
+                ) => {
+                    let received = manager.push_wire_byte(byte, observed_at_ms);
+                    *manager = received.manager;
+                    match received.answer {
+                        None => {
+                            written = print_flag(false, out, written);
+                        }
+                        Some(update) => {
+                            let booked = books.booked(update, observed_at_ms);
+                            *books = booked.books;
+                            let sample = Some(Delivered {
+                                update,
+                                status: booked.status,
+                            });
+                            written = print_answer(&encode(sample), out, written);
+                        }
+                    }
+                }
+                // Any other kind, and whatever comes before the first 00, goes by `step`.
+                _ => {
+                    let called = unit.step(record);
+                    written = print_called(called, &mut unit, out, written);
                 }
             }
         }
         // What is left for the next chunk.
-        let unit = Unit {
-            opened,
-            manager,
-            books,
-        };
         let stream = Stream { unit, line };
         Fed {
             stream,

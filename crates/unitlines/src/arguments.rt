@@ -1,28 +1,44 @@
-// The program's arguments, one after the other. An argument is bytes, which need not be UTF-8.
+// The program's arguments, each by its place.
 ghost use Rattle.std.specs.Prelude.{◌≡◌, ◌≤◌, length, take};
+ghost use Rattle.unitlines.specs.Held.{held_of};
 
 use std::env::FillError;
 use std::rt::Env;
 
-// How many arguments there are, the program's own name among them. The list ends at the first that is not
-// there; no process has as many as the loop may count.
-pub(crate) fn argument_count(rt: &impl Env) -> usize {
-    for i in 0..usize::MAX {
-        if let Err(FillError::NotPresent) = rt.arg(i, &mut []) {
-            return i;
-        }
-    }
-    usize::MAX
+// One more than any path has, so that an argument that is cut names no file and is no known option.
+const HELD: usize = 4096;
+
+// An argument as it was given: bytes, which need not be UTF-8.
+#[derive(Drop)]
+pub(crate) struct Text {
+    bytes: [u8; HELD],
+    len: usize,
+    ghost within: { len ≤ length bytes },
 }
 
-// Puts an argument at the start of a buffer, or as much of it as the buffer holds.
-pub(crate) fn argument_text(rt: &impl Env, i: usize, text: &mut [u8]) -> usize
-    ensures within { result ≤ length text.new }
-    ensures front { result ≡ length (take result text.new) }
+impl Text {
+    // The bytes that are held, to the last.
+    pub(crate) fn as_slice(&self) -> &[u8]
+        ensures { result.now ≡ take self.now.len self.now.bytes }
+    {
+        &self.bytes[..self.len]
+    }
+}
+
+// An argument, or as much of it as is held. None behind the last.
+pub(crate) fn argument(rt: &impl Env, i: usize) -> Option<Text> {
+    let mut bytes = [0u8; HELD];
+    let len = held(rt.arg(i, &mut bytes))?;
+    Some(Text { bytes, len })
+}
+
+// How much of an argument is held, by what the call told that copied it.
+fn held(told: Result<usize, FillError>) -> Option<usize>
+    ensures { result ≡ held_of told }
 {
-    match rt.arg(i, text) {
-        Ok(n) => n,
-        Err(FillError::TooLong) => text.len(),
-        Err(FillError::NotPresent) => 0,
+    match told {
+        Ok(n) => Some(n),
+        Err(FillError::TooLong) => Some(HELD),
+        Err(FillError::NotPresent) => None,
     }
 }

@@ -1,58 +1,61 @@
 // The files that the arguments name, each a session of its own, in their order. Where the output can't be written, the
 // rest can't either.
-ghost use Rattle.std.specs.Prelude.{◌≤◌, length};
-ghost use Rattle.unit_text.specs.Stream.{longest_line};
-
-use crate::arguments::{argument_count, argument_text};
+use crate::arguments::argument;
+use crate::buffers::Buffers;
 use crate::messages::{not_opened, not_read};
-use crate::session::{SessionError, run};
+use crate::output::NotWritten;
+use crate::session::SessionError;
 use command_line::{Argument, classify};
 use std::fs::File;
 use std::io::Read;
 
-// Standard output can't be written, so that no more answers can be.
-#[derive(Clone, Copy)]
-pub(crate) struct NotWritten;
-
-// Answers a reader's session. What can't be read is named and passed over.
-fn answer(
+// Answers all files, or standard input where none is named. No option but `--` is left here.
+pub(crate) fn answer_all<const N: usize>(
     rt: &HostRuntime,
-    from: &mut impl Read,
-    name: &[u8],
-    input: &mut [u8],
-    out: &mut [u8],
-) -> Result<(), NotWritten>
-    requires { longest_line ≤ length out.old }
-{
-    match run(from, &mut rt.stdout(), input, out) {
-        Ok(()) => Ok(()),
-        Err(SessionError::NotRead) => {
-            not_read(rt, name);
-            Ok(())
+    buffers: &mut Buffers<N>,
+) -> Result<(), NotWritten> {
+    let mut options = true;
+    let mut named = false;
+    for i in 1..usize::MAX {
+        let Some(text) = argument(rt, i) else {
+            break;
+        };
+        let name = text.as_slice();
+        match classify(name, options) {
+            Argument::EndOfOptions => options = false,
+            Argument::Input => {
+                named = true;
+                answer_input(rt, buffers)?;
+            }
+            _ => {
+                named = true;
+                answer_file(rt, name, buffers)?;
+            }
         }
-        Err(SessionError::NotWritten) => Err(NotWritten),
     }
+    if named {
+        return Ok(());
+    }
+    answer_input(rt, buffers)
 }
 
-fn answer_input(rt: &HostRuntime, input: &mut [u8], out: &mut [u8]) -> Result<(), NotWritten>
-    requires { longest_line ≤ length out.old }
-{
-    answer(rt, &mut rt.stdin(), b"standard input", input, out)
+fn answer_input<const N: usize>(
+    rt: &HostRuntime,
+    buffers: &mut Buffers<N>,
+) -> Result<(), NotWritten> {
+    answer_reader(rt, &mut rt.stdin(), b"standard input", buffers)
 }
 
-fn answer_file(
+fn answer_file<const N: usize>(
     rt: &HostRuntime,
     name: &[u8],
-    input: &mut [u8],
-    out: &mut [u8],
-) -> Result<(), NotWritten>
-    requires { longest_line ≤ length out.old }
-{
+    buffers: &mut Buffers<N>,
+) -> Result<(), NotWritten> {
     let Some(mut file) = opened(rt, name) else {
         not_opened(rt, name);
         return Ok(());
     };
-    answer(rt, &mut file, name, input, out)
+    answer_reader(rt, &mut file, name, buffers)
 }
 
 // A file that can be read. A path of std is UTF-8, so a file with another name can't be opened.
@@ -61,45 +64,19 @@ fn opened(rt: &HostRuntime, name: &[u8]) -> Option<File> {
     File::open(rt, path).ok()
 }
 
-// Answers what an argument names.
-fn answer_argument(
+// Answers a reader's session. What can't be read is named and passed over.
+fn answer_reader<const N: usize>(
     rt: &HostRuntime,
-    kind: Argument,
+    from: &mut impl Read,
     name: &[u8],
-    input: &mut [u8],
-    out: &mut [u8],
-) -> Result<(), NotWritten>
-    requires { longest_line ≤ length out.old }
-{
-    match kind {
-        Argument::Input => answer_input(rt, input, out),
-        _ => answer_file(rt, name, input, out),
-    }
-}
-
-// Answers all files, or standard input where none is named. No option but `--` is left here.
-pub(crate) fn answer_all(
-    rt: &HostRuntime,
-    text: &mut [u8],
-    input: &mut [u8],
-    out: &mut [u8],
-) -> Result<(), NotWritten>
-    requires { longest_line ≤ length out.old }
-{
-    let mut options = true;
-    let mut named = false;
-    for i in 1..argument_count(rt) {
-        let n = argument_text(rt, i, text);
-        let kind = classify(&text[..n], options);
-        if matches!(kind, Argument::EndOfOptions) {
-            options = false;
-        } else {
-            named = true;
-            answer_argument(rt, kind, &text[..n], input, out)?;
+    buffers: &mut Buffers<N>,
+) -> Result<(), NotWritten> {
+    match buffers.answer(from, &mut rt.stdout()) {
+        Ok(()) => Ok(()),
+        Err(SessionError::NotRead) => {
+            not_read(rt, name);
+            Ok(())
         }
+        Err(SessionError::NotWritten) => Err(NotWritten),
     }
-    if named {
-        return Ok(());
-    }
-    answer_input(rt, input, out)
 }

@@ -3,6 +3,7 @@
 #![tactic(auto)]
 
 mod arguments;
+mod buffers;
 mod files;
 mod messages;
 mod options;
@@ -10,19 +11,28 @@ mod output;
 mod session;
 mod texts;
 
+use crate::buffers::Buffers;
 use crate::files::answer_all;
-use crate::messages::not_written;
-use crate::options::no_option;
+use crate::messages::{not_written, unknown_option};
+use crate::options::{Asked, first_option};
+use crate::output::NotWritten;
+use crate::texts::{print_help, print_version};
 
 fn main(rt: HostRuntime) {
-    // one more than any path has, so that an argument that is cut names no file and is no known option
-    let mut text = [0u8; 4096];
-    if !no_option(&rt, &mut text) {
-        return;
-    }
-    let mut input = [0u8; 65536];
-    let mut out = [0u8; 65536];
-    if answer_all(&rt, &mut text, &mut input, &mut out).is_err() {
+    if answer_arguments(&rt).is_err() {
         not_written(&rt);
+    }
+}
+
+// Does what the first option asks, or answers the files where there is none.
+fn answer_arguments(rt: &HostRuntime) -> Result<(), NotWritten> {
+    match first_option(rt) {
+        Some(Asked::Help) => print_help(rt),
+        Some(Asked::Version) => print_version(rt),
+        Some(Asked::Unknown(text)) => {
+            unknown_option(rt, text.as_slice());
+            Ok(())
+        }
+        None => answer_all(rt, &mut Buffers::<65536>::new()),
     }
 }

@@ -1,29 +1,28 @@
 // The first look at the arguments, before anything is opened.
-use crate::arguments::{argument_count, argument_text};
-use crate::messages::unknown_option;
-use crate::texts::{print_help, print_version};
+use crate::arguments::{Text, argument};
 use command_line::{Argument, classify};
+use std::rt::Env;
 
-// Does what the first option asks. Whether there was none, so that the files are to be answered.
-pub(crate) fn no_option(rt: &HostRuntime, text: &mut [u8]) -> bool {
-    for i in 1..argument_count(rt) {
-        let n = argument_text(rt, i, text);
-        match classify(&text[..n], true) {
-            Argument::Help => {
-                print_help(rt);
-                return false;
-            }
-            Argument::Version => {
-                print_version(rt);
-                return false;
-            }
-            Argument::UnknownOption => {
-                unknown_option(rt, &text[..n]);
-                return false;
-            }
-            Argument::EndOfOptions => return true,
+// What an option asks for in place of answers.
+#[derive(Drop)]
+pub(crate) enum Asked {
+    Help,
+    Version,
+    // An option that there is not.
+    Unknown(Text),
+}
+
+// What the first option asks, wherever it stands. None where the files are to be answered.
+pub(crate) fn first_option(rt: &impl Env) -> Option<Asked> {
+    for i in 1..usize::MAX {
+        let text = argument(rt, i)?;
+        match classify(text.as_slice(), true) {
+            Argument::Help => return Some(Asked::Help),
+            Argument::Version => return Some(Asked::Version),
+            Argument::UnknownOption => return Some(Asked::Unknown(text)),
+            Argument::EndOfOptions => return None,
             Argument::Input | Argument::File => {}
         }
     }
-    true
+    None
 }

@@ -7,9 +7,27 @@ ghost use Rattle.std.specs.Io.KnownBytes.{Appends};
 ghost use Rattle.unit_text.specs.Stream.{printed, printed_at_end};
 ghost use Rattle.unit_text.specs.Streams.{streamed};
 
+use base::Refusal;
 use std::io;
 use std::io::Write;
 use unit_text::Stream;
+
+// The output can't be written, so that no more answers can be.
+#[derive(Clone, Copy, Debug, PartialEq, Eq)]
+pub(crate) struct NotWritten;
+
+impl From<io::Error> for NotWritten {
+    fn from(_error: io::Error) -> NotWritten {
+        NotWritten
+    }
+}
+
+// Of what has no room in the buffer that it is written from.
+impl From<Refusal> for NotWritten {
+    fn from(_refusal: Refusal) -> NotWritten {
+        NotWritten
+    }
+}
 
 // Writes what a stream prints at a part of the input.
 pub(crate) fn write_printed<W: Write>(
@@ -17,17 +35,19 @@ pub(crate) fn write_printed<W: Write>(
     stream: Stream,
     part: &[u8],
     text: &[u8],
-) -> io::Result<()>
+) -> Result<(), NotWritten>
     requires { text.now ≡ printed (streamed stream) part.now }
     ensures { OnOk result (Appends (W.contents to.old) (W.contents to.new) (printed (streamed stream) part.now)) }
 {
-    to.write_all(text)
+    to.write_all(text)?;
+    Ok(())
 }
 
 // Writes what a stream prints at the end of the input.
-pub(crate) fn write_end<W: Write>(to: &mut W, stream: Stream, text: &[u8]) -> io::Result<()>
+pub(crate) fn write_end<W: Write>(to: &mut W, stream: Stream, text: &[u8]) -> Result<(), NotWritten>
     requires { text.now ≡ printed_at_end (streamed stream) }
     ensures { OnOk result (Appends (W.contents to.old) (W.contents to.new) (printed_at_end (streamed stream))) }
 {
-    to.write_all(text)
+    to.write_all(text)?;
+    Ok(())
 }

@@ -6,20 +6,30 @@ ghost use Rattle.unit_text.specs.Session.{session_text};
 ghost use Rattle.unit_text.specs.Stream.{after, longest_line, printed, printed_at_end};
 ghost use Rattle.unit_text.specs.Streams.{streamed};
 
-use crate::output::{write_end, write_printed};
-use std::io;
+use crate::output::{NotWritten, write_end, write_printed};
 use std::io::{Read, Write};
 use unit_text::Stream;
 
 // Why a session stopped before the end of its input.
-#[derive(Clone, Copy)]
+#[derive(Clone, Copy, Debug, PartialEq, Eq)]
 pub(crate) enum SessionError {
     NotRead,
     NotWritten,
 }
 
+impl From<NotWritten> for SessionError {
+    fn from(_error: NotWritten) -> SessionError {
+        SessionError::NotWritten
+    }
+}
+
 // Feeds all of a chunk to a stream, and writes what that prints. The stream after it.
-fn pump<W: Write>(to: &mut W, stream: Stream, chunk: &[u8], out: &mut [u8]) -> io::Result<Stream>
+fn pump<W: Write>(
+    to: &mut W,
+    stream: Stream,
+    chunk: &[u8],
+    out: &mut [u8],
+) -> Result<Stream, NotWritten>
     requires { longest_line ≤ length out.old }
     ensures stream_after { IfOk result (λ next. streamed next ≡ after (streamed stream) chunk.now) }
     ensures written { OnOk result (Appends (W.contents to.old) (W.contents to.new) (printed (streamed stream) chunk.now)) }
@@ -36,17 +46,12 @@ fn pump<W: Write>(to: &mut W, stream: Stream, chunk: &[u8], out: &mut [u8]) -> i
     Ok(stream)
 }
 
-// Writes what the end of input prints.
-fn finish<W: Write>(to: &mut W, stream: Stream, out: &mut [u8]) -> Result<(), SessionError>
+// Writes what the end of input prints. Any answer fits in the output, so that none is refused.
+fn finish<W: Write>(to: &mut W, stream: Stream, out: &mut [u8]) -> Result<(), NotWritten>
     ensures { OnOk result (Appends (W.contents to.old) (W.contents to.new) (printed_at_end (streamed stream))) }
 {
-    let Ok(n) = stream.finish(out) else {
-        return Err(SessionError::NotWritten);
-    };
-    let Ok(()) = write_end(to, stream, &out[..n]) else {
-        return Err(SessionError::NotWritten);
-    };
-    Ok(())
+    let n = stream.finish(out)?;
+    write_end(to, stream, &out[..n])
 }
 
 // Reads to the end of input. A loop has to end, and nothing says that the input does: the count of
@@ -64,16 +69,12 @@ pub(crate) fn run<R: Read, W: Write>(
 {
     let mut stream = Stream::new();
     for _ in 0..u64::MAX {
-        let Ok(n) = from.read(input) else {
-            return Err(SessionError::NotRead);
-        };
+        let n = from.read(input).map_err(|_| SessionError::NotRead)?;
         if n == 0 {
-            return finish(to, stream, out);
+            finish(to, stream, out)?;
+            return Ok(());
         }
-        let Ok(next) = pump(to, stream, &input[..n], out) else {
-            return Err(SessionError::NotWritten);
-        };
-        stream = next;
+        stream = pump(to, stream, &input[..n], out)?;
     }
     Err(SessionError::NotRead)
 }

@@ -1,12 +1,12 @@
 // What --help and --version print.
-use crate::messages::not_written;
+use crate::output::NotWritten;
 
 // The project's version; tests/arguments.py holds the README to it.
-pub(crate) fn print_version(rt: &HostRuntime) {
-    print(rt, b"unitlines 0.1.0\n");
+pub(crate) fn print_version(rt: &HostRuntime) -> Result<(), NotWritten> {
+    print(rt, b"unitlines 0.1.0\n")
 }
 
-pub(crate) fn print_help(rt: &HostRuntime) {
+pub(crate) fn print_help(rt: &HostRuntime) -> Result<(), NotWritten> {
     print(
         rt,
         b"usage: unitlines [--] [FILE]...\n\
@@ -18,11 +18,10 @@ pub(crate) fn print_help(rt: &HostRuntime) {
         --         ends the options: what follows names a FILE\n\
         \n\
         All went well if there are as many answers as lines and nothing is on standard error.\n",
-    );
+    )
 }
 
-fn print(rt: &HostRuntime, text: &[u8]) {
-    if rt.write_all(text).is_err() {
-        not_written(rt);
-    }
+fn print(rt: &HostRuntime, text: &[u8]) -> Result<(), NotWritten> {
+    rt.write_all(text)?;
+    Ok(())
 }

@@ -13,9 +13,11 @@ impl EscManager {
     pub fn on_actuator_ack(self, ack: EscActuatorAck) -> After<EscAckOutcome>
         ensures { result ≡ on_ack self ack }
     {
-        let mut manager = self;
         // While faulted: the actuator was still busy with a request, so it is not quiet yet.
-        manager.fault = self.fault.heard(ack.started_at_ms);
+        let manager = Self {
+            fault: self.fault.heard(ack.started_at_ms),
+            ..self
+        };
         let Some(PendingRequest::Queued { request, early, .. }) = self.pending else {
             return manager.mismatched();
         };

@@ -19,11 +19,7 @@ impl EscManager {
             && self.pending.is_none()
             && elapsed_at_least(self.boot_started_ms, now_ms, self.config.boot_delay_ms)
             && self.turn.period_due(now_ms, self.config.request_period_ms);
-        if wanted {
-            Some(self.turn.request())
-        } else {
-            None
-        }
+        wanted.then_some(self.turn.request())
     }
 
     // Yes where the request is the one wanted now.

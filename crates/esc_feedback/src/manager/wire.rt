@@ -15,9 +15,11 @@ impl EscManager {
         ensures { result ≡ push_wire self byte observed_at_ms }
     {
         let pushed = self.parser.pushed(byte);
-        let mut manager = self;
-        manager.fault = self.fault.heard(observed_at_ms);
-        manager.parser = pushed.parser;
+        let manager = Self {
+            fault: self.fault.heard(observed_at_ms),
+            parser: pushed.parser,
+            ..self
+        };
         let Some(sample) = pushed.parsed else {
             return After {
                 manager,
@@ -71,9 +73,10 @@ impl EscManager {
     pub fn record_wire_discontinuity(self) -> EscManager
         ensures { result ≡ cut_wire self }
     {
-        let mut manager = self;
-        manager.parser = self.parser.emptied();
-        manager
+        Self {
+            parser: self.parser.emptied(),
+            ..self
+        }
     }
 
     // 09: the parser's counts are copied into the manager's; otherwise only a sample renews them.

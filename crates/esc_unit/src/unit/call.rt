@@ -1,13 +1,11 @@
 // A call: a record's bytes in, its answer's bytes out, and every refusal in the order of its number.
 ghost use Rattle.std.specs.Prelude.{◌≡◌, length};
 ghost use Rattle.base.specs.Reply.{accepted, replied};
-ghost use Rattle.esc_unit.specs.Unit.{call_of, output_after, length_of};
-ghost use Rattle.esc_unit.specs.Admission.{on_admitted};
+ghost use Rattle.esc_unit.specs.Unit.{call_on, call_of, output_after, length_of};
 
-use crate::unit::{Called, Unit, opened_unit};
+use crate::unit::{Called, Unit};
 use base::Refusal;
 use esc_answers::write_answer;
-use esc_kinds::step;
 use esc_records::{Record, admit};
 
 impl Unit {
@@ -18,26 +16,29 @@ impl Unit {
         ensures reply_value { replied result.reply ≡ length_of (call_of self bytes.now (length out.old)).reply }
         ensures out_after { out.new ≡ output_after (call_of self bytes.now (length out.old)).reply out.old }
     {
-        match admit(self.opened, bytes) {
+        match admit(self.opened.is_some(), bytes) {
             Ok(known) => self.answered(known, out),
             Err(refusal) => self.refused(refusal),
         }
     }
 
-    // The call, once its record is taken.
+    // The call, once its record is known: its answer, where there is room for it.
     #[tactic(auto, unfolding(crate::specs::Unit::output_after, base::specs::Handed::handed_reply, base::specs::Handed::handed_output))]
-    fn answered(self, record: Record, out: &mut [u8]) -> Called<usize>
-        ensures unit_value { result.unit ≡ (on_admitted self (length out.old) (accepted «record»)).unit }
-        ensures reply_value { replied result.reply ≡ length_of (on_admitted self (length out.old) (accepted «record»)).reply }
-        ensures out_after { out.new ≡ output_after (on_admitted self (length out.old) (accepted «record»)).reply out.old }
+    fn answered(self, known: Record, out: &mut [u8]) -> Called<usize>
+        ensures unit_value { result.unit ≡ (call_on self (length out.old) (accepted known)).unit }
+        ensures reply_value { replied result.reply ≡ length_of (call_on self (length out.old) (accepted known)).reply }
+        ensures out_after { out.new ≡ output_after (call_on self (length out.old) (accepted known)).reply out.old }
     {
-        let stepped = step(self.manager, self.books, record);
-        match write_answer(stepped.answer, out) {
-            Ok(count) => Called {
-                unit: opened_unit(stepped.manager, stepped.books),
-                reply: Ok(count),
+        let called = self.step(known);
+        match called.reply {
+            Ok(answer) => match write_answer(answer, out) {
+                Ok(count) => Called {
+                    unit: called.unit,
+                    reply: Ok(count),
+                },
+                Err(no_room) => self.refused(no_room),
             },
-            Err(no_room) => self.refused(no_room),
+            Err(refusal) => called.unit.refused(refusal),
         }
     }
 
