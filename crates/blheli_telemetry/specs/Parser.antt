@@ -1,5 +1,5 @@
 -- The parser's calls, each as the whole parser that it leaves and what it gives (document 01, 'Frame').
-use Rattle.std.specs.Prelude.{Some, None, ℕ, ◌+◌, List, ◌++◌, ltb, set, take, drop, replicate}
+use Rattle.std.specs.Prelude.{Some, None, ℕ, ◌+◌, Bool, List, ◌++◌, ltb, set, take, drop, replicate}
 use Rattle.base.specs.Choice.{pick}
 use Rattle.base.specs.Saturated.{saturated}
 use Rattle.base.specs.Reply.{Reply, accepted, refused}
@@ -34,6 +34,14 @@ counted_bad s =
 -- each of ten bytes but the first, one place down; what stands in the last place does not matter, and stays
 unfoldable pub shifted_down : List ℕ → List ℕ
 shifted_down b = take 9 (drop 1 b) ++ drop 9 b
+
+-- what the parser has counted
+abbrev pub parser_stats : StreamParser → ParserStats
+parser_stats p = p.stats
+
+-- whether fewer than nine are held, so that one more makes no ten
+abbrev pub collecting : StreamParser → Bool
+collecting p = ltb p.len 9
 
 -- fewer than nine are held: the byte joins them
 abbrev pub collected : StreamParser → ℕ → Pushed

@@ -2,9 +2,9 @@
 //
 // A CRC failure advances by one byte because the protocol has no sync byte. This recovers from
 // dropped and noisy bytes while memory and work stay bounded.
-ghost use Rattle.std.specs.Prelude.{◌≡◌, ltb};
+ghost use Rattle.std.specs.Prelude.{◌≡◌};
 ghost use Rattle.base.specs.Choice.{pick};
-ghost use Rattle.blheli_telemetry.specs.Parser.{no_counts, new_parser, counted_good, counted_bad, shifted_down, collected, push_of, reset_of};
+ghost use Rattle.blheli_telemetry.specs.Parser.{no_counts, new_parser, counted_good, counted_bad, shifted_down, collected, push_of, reset_of, parser_stats, collecting};
 
 use crate::frame::{EscTelemetry, decode};
 use base::saturating_inc;
@@ -53,14 +53,14 @@ impl StreamParser {
 
     // Whether one byte more is only held, since it makes no ten.
     pub fn collects(self) -> bool
-        ensures { result ≡ ltb self.len 9 }
+        ensures { result ≡ collecting self }
     {
         self.len < 9
     }
 
     // The parser with one byte more held; as it is where that byte would be the tenth.
     pub fn collected(self, byte: u8) -> StreamParser
-        ensures { result ≡ pick (ltb self.len 9) (collected self byte).parser self }
+        ensures { result ≡ pick (collecting self) (collected self byte).parser self }
     {
         let mut parser = self;
         if parser.collects() {
@@ -114,7 +114,7 @@ impl StreamParser {
 
     // What the parser has counted since it was made.
     pub fn stats(self) -> ParserStats
-        ensures { result ≡ self.stats }
+        ensures { result ≡ parser_stats self }
     {
         self.stats
     }

@@ -2,7 +2,7 @@
 use Rattle.std.specs.Prelude.{ℕ, ◌+◌, ◌*◌, ◌/◌, Bool, ◌&&◌, List, [], ◌∷◌, Option, Some, None, nat_le, length, set}
 use Rattle.base.specs.Choice.{pick}
 use Rattle.base.specs.BigEndian.{overwrite}
-use Rattle.blheli_telemetry.specs.Parser.{new_parser, push_of}
+use Rattle.blheli_telemetry.specs.Parser.{new_parser, push_of, parser_stats}
 use Rattle.blheli_telemetry.specs.Stream.{parsed_by}
 use Rattle.blheli_telemetry.specs.declared.frame.EscTelemetry.{EscTelemetry}
 use Rattle.blheli_telemetry.specs.declared.parser.ParserStats.{ParserStats}
@@ -29,7 +29,7 @@ filled i (p ∷ ps) out = filled (i + 1) ps (filled_at i p out)
 
 -- the counts of a parser that has taken the bytes
 unfoldable pub stats_by : StreamParser → List ℕ → ParserStats
-stats_by p [] = p.stats
+stats_by p [] = parser_stats p
 stats_by p (b ∷ bs) = stats_by (push_of p b).parser bs
 
 abbrev pub counts_in : ParserStats → List ℕ → List ℕ

@@ -9,7 +9,8 @@ use Rattle.esc_lanes.specs.declared.samples.EscSamples.{EscSamples}
 use Rattle.esc_idle.specs.declared.idle_config.EscIdleQualificationConfig.{EscIdleQualificationConfig}
 use Rattle.esc_idle.specs.declared.idle.EscIdleQualification.{EscIdleQualification}
 use Rattle.esc_idle.specs.declared.idle.EscIdleJudged.{EscIdleJudged}
-use Rattle.esc_books.specs.Figures.{no_figures, figures_with}
+use Rattle.esc_answers.specs.declared.answer.Figure.{Figure}
+use Rattle.esc_books.specs.Figures.{no_figures, figure_at, figures_with}
 use Rattle.esc_books.specs.declared.figures.Figures.{Figures}
 use Rattle.esc_books.specs.declared.books.Books.{Books}
 use Rattle.esc_books.specs.declared.books.Booked.{Booked}
@@ -49,6 +50,10 @@ idle_status b now = if_checking b (option_map (λ (i : EscIdleQualification). st
 
 abbrev pub sample_of : EscOutput → Option EscTelemetryObservation → Option EscTelemetryUpdate
 sample_of o x = option_map (λ (y : EscTelemetryObservation). record { output = o; observation = y }) x
+
+-- 0e
+abbrev pub lane_figure : Books → EscOutput → Figure
+lane_figure b o = figure_at b.figures o
 
 -- 0d
 abbrev pub stored_at : Books → EscOutput → Option EscTelemetryUpdate

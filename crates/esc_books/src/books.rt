@@ -1,8 +1,7 @@
 // What only an opening, a delivered sample, a recovery and the kinds 0a, 0b, 0d and 0e touch: stored samples, at
 // most one idle check, figures. It stands beside the manager, so that the calls of the wire do not move it.
 ghost use Rattle.std.specs.Prelude.{◌≡◌};
-ghost use Rattle.esc_books.specs.Figures.{figure_at};
-ghost use Rattle.esc_books.specs.Books.{no_books, checked_by, samples_dropped, if_checking, booked_in, idle_status, stored_at};
+ghost use Rattle.esc_books.specs.Books.{no_books, checked_by, samples_dropped, if_checking, booked_in, idle_status, stored_at, lane_figure};
 
 use crate::figures::Figures;
 use esc_answers::Figure;
@@ -109,7 +108,7 @@ impl Books {
 
     // 0e: the lane's figures.
     pub fn figure(self, output: EscOutput) -> Figure
-        ensures { result ≡ figure_at self.figures output }
+        ensures { result ≡ lane_figure self output }
     {
         self.figures.at(output)
     }

@@ -28,6 +28,10 @@ manager_of config boot turn pending fault back parser stats =
       stats = stats;
     }
 
+-- what the manager has counted
+abbrev pub manager_stats : EscManager → EscManagerStats
+manager_stats m = m.stats
+
 -- one part replaced, the others kept
 abbrev pub set_turn : Turn → EscManager → EscManager
 set_turn x m = manager_of m.config m.boot_started_ms x m.pending m.fault m.back_after_retries m.parser m.stats

@@ -1,6 +1,6 @@
 -- 05, 06 and 09: the wire (document 01, 'Manager' and 'Frame').
 use Rattle.std.specs.Prelude.{ℕ, Option, Some, None}
-use Rattle.blheli_telemetry.specs.Parser.{push_of, reset_of}
+use Rattle.blheli_telemetry.specs.Parser.{push_of, reset_of, parser_stats}
 use Rattle.blheli_telemetry.specs.declared.frame.EscTelemetry.{EscTelemetry}
 use Rattle.esc_lanes.specs.Request.{observation_of, update_of}
 use Rattle.esc_feedback.specs.Stats.{frames_unsolicited, wire_renewed}
@@ -18,7 +18,7 @@ cut_wire m = set_parser (reset_of m.parser) m
 
 -- 09: the manager's copy of the parser's counts is renewed
 abbrev pub refreshed : EscManager → EscManager
-refreshed m = set_stats (wire_renewed m.stats m.parser.stats) m
+refreshed m = set_stats (wire_renewed m.stats (parser_stats m.parser)) m
 
 -- a frame with nothing open is unsolicited; one before the acknowledgement is held, and a later one replaces it, uncounted;
 -- one after it is the request's sample

@@ -10,7 +10,7 @@ mod timeout;
 mod wire;
 
 ghost use Rattle.std.specs.Prelude.{◌≡◌, not, nat_eq};
-ghost use Rattle.esc_feedback.specs.Manager.{is_faulted, new_manager, closed_by_sample, take_back};
+ghost use Rattle.esc_feedback.specs.Manager.{is_faulted, new_manager, closed_by_sample, take_back, manager_stats};
 
 use crate::answer::After;
 use crate::config::EscManagerConfig;
@@ -69,7 +69,7 @@ impl EscManager {
 
     // The counts that the report shows.
     pub fn stats(self) -> EscManagerStats
-        ensures { result ≡ self.stats }
+        ensures { result ≡ manager_stats self }
     {
         self.stats
     }

@@ -45,7 +45,11 @@ unless_standing q found None = found
 abbrev pub counts_of : List IdleLane → List ℕ
 counts_of ls = map (λ (l : IdleLane). l.consecutive_samples) ls
 
--- the timeout with them
+-- those of a check
+abbrev pub lane_counts : EscIdleQualification → List ℕ
+lane_counts i = counts_of i.lanes
+
+-- the timeout with the four
 abbrev pub timeout_with : List IdleLane → EscIdleQualificationFailure
 timeout_with ls = Timeout (counts_of ls)
 

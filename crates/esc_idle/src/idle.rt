@@ -2,7 +2,7 @@
 // verdict stays.
 ghost use Rattle.std.specs.Prelude.{◌≡◌};
 ghost use Rattle.esc_idle.specs.IdleLane.{every_enough};
-ghost use Rattle.esc_idle.specs.Idle.{standing, new_idle, observe_of, status_of, counts_of, measured, sampled, fresh_at, weighed, saying, decided};
+ghost use Rattle.esc_idle.specs.Idle.{standing, new_idle, observe_of, status_of, measured, sampled, fresh_at, weighed, saying, decided, lane_counts};
 
 use crate::idle_config::EscIdleQualificationConfig;
 use crate::idle_lane::IdleLane;
@@ -66,7 +66,7 @@ impl EscIdleQualification {
 
     // How many samples in a row each lane has within limits.
     pub fn consecutive_samples(self) -> [u8; 4]
-        ensures { result ≡ counts_of self.lanes }
+        ensures { result ≡ lane_counts self }
     {
         self.lanes.map(|lane| lane.consecutive_samples)
     }

@@ -1,6 +1,6 @@
 -- What each record does to the manager and the books, and its answer (document 01, 'Records').
 use Rattle.std.specs.Prelude.{ℕ, Bool, true, false, not, eqb, Option, Some, None}
-use Rattle.esc_feedback.specs.Manager.{new_manager, is_faulted, take_back}
+use Rattle.esc_feedback.specs.Manager.{new_manager, is_faulted, take_back, manager_stats}
 use Rattle.esc_feedback.specs.Queueing.{next_request, mark_queued}
 use Rattle.esc_feedback.specs.Ack.{on_ack}
 use Rattle.esc_feedback.specs.Timeout.{poll_timeout}
@@ -11,8 +11,7 @@ use Rattle.esc_feedback.specs.declared.answer.EscAckOutcome.{EscAckOutcome}
 use Rattle.esc_feedback.specs.declared.answer.EscAckOutcome.TheVariants as outcome
 use Rattle.esc_feedback.specs.declared.config.EscManagerConfig.{EscManagerConfig}
 use Rattle.esc_feedback.specs.declared.manager.EscManager.{EscManager}
-use Rattle.esc_books.specs.Figures.{figure_at}
-use Rattle.esc_books.specs.Books.{no_books, checked_by, samples_dropped, booked_in, idle_status, stored_at}
+use Rattle.esc_books.specs.Books.{no_books, checked_by, samples_dropped, booked_in, idle_status, stored_at, lane_figure}
 use Rattle.esc_records.specs.declared.record.Record.{Record}
 use Rattle.esc_records.specs.declared.record.Record.TheVariants as kind
 use Rattle.esc_answers.specs.declared.answer.AckAnswer.TheVariants as ack
@@ -58,7 +57,7 @@ recovered_on m b true = stepped m (samples_dropped b) (answer.Decided true)
 recovered_on m b false = stepped m b (answer.Decided false)
 
 abbrev pub report_of : EscManager → UnitReport
-report_of m = record { faulted = is_faulted m; retrying = not (eqb m.fault.retries_without_frame 0); stats = m.stats }
+report_of m = record { faulted = is_faulted m; retrying = not (eqb m.fault.retries_without_frame 0); stats = manager_stats m }
 
 -- what each kind of record does, 00 to 0e
 unfoldable pub step_of : EscManager → Books → Record → Stepped
@@ -76,4 +75,4 @@ step_of m b (kind.IdleCheck c t) = stepped m (checked_by b c t) answer.Done
 step_of m b (kind.IdleStatus now) = stepped m (idle_status b now).books (answer.Idle (idle_status b now).status)
 step_of m b kind.Report = stepped m b (answer.Report (report_of m))
 step_of m b (kind.StoredSample o) = stepped m b (answer.Stored (stored_at b o))
-step_of m b (kind.Figures o) = stepped m b (answer.Figures (figure_at b.figures o))
+step_of m b (kind.Figures o) = stepped m b (answer.Figures (lane_figure b o))

@@ -1,7 +1,8 @@
 -- A line with a wire byte, read straight into its numbers.
-use Rattle.std.specs.Prelude.{ℕ, ◌<◌, ◌≡◌, true, List, [], nat_lt, length}
+use Rattle.std.specs.Prelude.{ℕ, ◌<◌, ◌≡◌, true, List, [], length}
 use Rattle.base.specs.BigEndian.{number_at}
 use Rattle.base.specs.Reply.{accepted}
+use Rattle.blheli_telemetry.specs.Parser.{collecting}
 use Rattle.blheli_telemetry.specs.declared.parser.StreamParser.{StreamParser}
 use Rattle.esc_records.specs.declared.record.Record.TheVariants as kind
 use Rattle.hex_lines.specs.Line.{all_digits, pairs, read_line}
@@ -23,5 +24,5 @@ pub record WireAt (chunk : List ℕ) (wire : WireByte) : Type 0 where
 -- besides, nothing of a line is held, and the parser only collects the byte
 pub record CollectedAt (begun : List ℕ) (p : StreamParser) (chunk : List ℕ) (wire : WireByte) : Type 0 where
   pub none : begun ≡ []
-  pub few : nat_lt p.len 9 ≡ true
+  pub few : collecting p ≡ true
   pub line : WireAt chunk wire
