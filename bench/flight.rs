@@ -7,7 +7,8 @@
 //! One request in 250 loses a byte: it times out (04), the unit recovers (07), the next request is
 //! answered and the retries are taken (08).
 //!
-//! Usage: flight LINES SEED TEXT; prints the number of lines of each kind.
+//! Usage: flight LINES SEED SMALL CAPITALS; writes it in small letters and in capitals, and prints the number of lines of
+//! each kind.
 #[path = "../oracle/layout.rs"]
 #[allow(dead_code)]
 mod layout;
@@ -153,6 +154,7 @@ fn main() {
         s.flight();
     }
     std::fs::write(&words[2], &s.text).unwrap();
+    std::fs::write(&words[3], s.text.to_ascii_uppercase()).unwrap();
     let kinds: Vec<String> = s.kinds.iter().enumerate().filter(|(_, n)| **n > 0).map(|(kind, n)| format!("{kind:02x} {n}")).collect();
     println!("{lines} lines by kind: {}", kinds.join(", "));
 }

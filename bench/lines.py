@@ -1,11 +1,11 @@
 #!/usr/bin/env python3
-"""unitlines and the reference on one session: time, then memory.
+"""unitlines and the reference on one session, in small letters and in capitals: time, then memory.
 
-Usage: lines.py SESSION ROUNDS UNITLINES REFERENCE
+Usage: lines.py SMALL CAPITALS ROUNDS UNITLINES REFERENCE
 
-Both read the session's file and write to /dev/null. They are run in turns, who goes first changes, and
+Both read a session's file and write to /dev/null. They are run in turns, who goes first changes, and
 the best time of each counts: from its start to its end, on the clock. The file was read before, so it is
-in the page cache. First the two answers are compared, byte for byte.
+in the page cache. First all answers are compared, byte for byte.
 """
 import fcntl
 import os
@@ -53,21 +53,23 @@ def peak_kib(program, session):
 
 
 def main():
-    session, rounds, *programs = sys.argv[1:]
-    printed = [answers(p, session) for p in programs]
-    if printed[0] != printed[1]:
-        sys.exit("lines: the two answers differ")
-    lines = printed[0].count(b"\n")
-    print(f"both print the same: {lines} lines, {len(printed[0])} characters")
+    small, capitals, rounds, *programs = sys.argv[1:]
+    printed, *others = (answers(p, session) for session in (small, capitals) for p in programs)
+    if any(other != printed for other in others):
+        sys.exit("lines: the answers differ")
+    lines = printed.count(b"\n")
+    print(f"both print the same, for capitals too: {lines} lines, {len(printed)} characters")
 
-    best = [float("inf")] * 2
+    runs = [(session, p) for session in (small, capitals) for p in programs]
+    best = dict.fromkeys(runs, float("inf"))
     with open(os.devnull, "wb") as sink:
         for turn in range(int(rounds)):
-            for which in (turn % 2, 1 - turn % 2):
-                best[which] = min(best[which], seconds(programs[which], session, sink))
-    own, rust = (s * 1e9 / lines for s in best)
-    print(f"lines           {1e3 / own:8.2f} M lines/s   Rust {1e3 / rust:8.2f} M lines/s   ratio {own / rust:.2f}   ({own:.1f} and {rust:.1f} ns a line)")
-    own, rust = (peak_kib(p, session) for p in programs)
+            for run in runs[:: 1 - turn % 2 * 2]:
+                best[run] = min(best[run], seconds(run[1], run[0], sink))
+    for name, session in (("lines", small), ("lines, capitals", capitals)):
+        own, rust = (best[session, p] * 1e9 / lines for p in programs)
+        print(f"{name:<16}{1e3 / own:8.2f} M lines/s   Rust {1e3 / rust:8.2f} M lines/s   ratio {own / rust:.2f}   ({own:.1f} and {rust:.1f} ns a line)")
+    own, rust = (peak_kib(p, small) for p in programs)
     print(f"memory          {own:8} KiB         Rust {rust:8} KiB         ratio {own / rust:.2f}   (peak resident)")
 
 

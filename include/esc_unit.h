@@ -32,7 +32,8 @@ enum { ESC_FRAME_BYTES = 10, ESC_FRAME_FIELDS = 5, ESC_PARSER_COUNTS = 3 };
 /* How many characters an answer takes at most, its LF included. */
 enum { ESC_ANSWER_CHARACTERS = 87 };
 
-/* A whole session: a record in hexadecimal on each line of `text`, an answer on a line of `out` for each.
+/* A whole session: a record in hexadecimal (0-9, a-f, A-F) on each line of `text`, an answer on a line of `out` for each,
+ * its letters small.
  * 0, and `*count` is how many characters were written; the rest of `out` stays as it was. Or 9. */
 uint8_t esc_unit_session(const uint8_t *text, size_t len, uint8_t *out, size_t room, size_t *count);
 

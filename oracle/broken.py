@@ -70,6 +70,8 @@ UNIT = [
 ]
 LAYOUT = [
     ("line.len() > 58", "line.len() > 57"),
+    ('b"0123456789ABCDEF"', 'b"0123456789ABCDEf"'),
+    ("        values[CAPITALS[d] as usize] = d as u8;\n", "        values[CAPITALS[d] as usize] = d as u8;\n        values[b'G' as usize] = 15;\n"),
     ("[c] if VALUES[*c as usize] > 15 => Err(2),", ""),
     ("|k| **k <= 0x0e", "|k| **k <= 0x0d"),
     ("|l| *l <= 3", "|l| *l <= 2"),

@@ -1,6 +1,7 @@
 //! What a session reached: named situations, each with a count. They are told from the records and the
 //! answers alone, by a count of the unit's state that is kept here and decides no answer.
 use crate::layout::{read_line, read_record, LENGTHS};
+use crate::letters::letters;
 use crate::limits::{field, values, FIELDS};
 use crate::noise::CHARACTERS;
 use crate::situations::{asked, Situation};
@@ -98,6 +99,7 @@ impl Coverage {
                 let mut room = [0; 29];
                 let bytes = read_line(line, &mut room).unwrap();
                 self.fields(bytes);
+                self.letters(line, bytes[0]);
                 let record = read_record(bytes).unwrap();
                 let state = self.state.take();
                 self.state = Some(match record {
@@ -117,8 +119,24 @@ impl Coverage {
         }
     }
 
+    fn letters(&mut self, line: &[u8], kind: u8) {
+        let (small, capitals) = letters(line);
+        self.count_if(capitals && !small, "in capitals, kind", kind.into());
+        self.count_if(capitals && small, "in small letters and capitals, kind", kind.into());
+        if let (0x05, Some(s)) = (kind, &self.state) {
+            let held = s.held.len() as u64;
+            self.count_if(letters(&line[2..4]).1, "05, its byte in capitals, bytes held", held);
+        }
+        for byte in line.chunks(2) {
+            byte.iter().filter(|c| c.is_ascii_uppercase()).for_each(|c| self.count("a capital", (*c).into()));
+            let capital_first = byte[0].is_ascii_uppercase();
+            self.count_if(letters(byte) == (true, true), "a byte of both letters, the capital at", !capital_first as u64);
+        }
+    }
+
     fn refused(&mut self, line: &[u8], number: u8) {
-        let digit = |c: &u8| c.is_ascii_digit() || (b'a'..=b'f').contains(c);
+        let digit = u8::is_ascii_hexdigit;
+        self.count_if(letters(line).1, "refused with capitals, number", number.into());
         let odd = line.iter().find(|c| !digit(c));
         if let Some(s) = &self.state {
             let (open, held) = (s.open.is_some(), !s.held.is_empty());

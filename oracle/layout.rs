@@ -161,6 +161,8 @@ pub fn call(unit: &mut Option<Unit>, record: &[u8]) -> Result<Answer, u8> {
 }
 
 const DIGITS: &[u8; 16] = b"0123456789abcdef";
+/// Read as well (document 02, Q-1), never printed.
+const CAPITALS: &[u8; 16] = b"0123456789ABCDEF";
 
 /// The value of each character that is a digit, 16 of the others.
 const VALUES: [u8; 256] = {
@@ -168,6 +170,7 @@ const VALUES: [u8; 256] = {
     let mut d = 0;
     while d < 16 {
         values[DIGITS[d] as usize] = d as u8;
+        values[CAPITALS[d] as usize] = d as u8;
         d += 1;
     }
     values

@@ -1,5 +1,6 @@
 //! Lines that stand for no record, or for one by chance.
 use crate::layout::LENGTHS;
+use crate::letters;
 use crate::rng::Rng;
 use crate::session::{hex, Session};
 
@@ -18,7 +19,7 @@ pub fn line(g: &mut Rng) -> Vec<u8> {
         0 => line.iter_mut().for_each(|c| *c = g.pick(&CHARACTERS)),
         1 => line.iter_mut().for_each(|c| *c = 0x0b + g.n(245) as u8),
         2 => line.push(b'\r'),
-        3 => line.make_ascii_uppercase(),
+        3 => letters::any(g, &mut line),
         4 if !line.is_empty() => {
             let at = g.n(line.len() as u64) as usize;
             line[at] = g.pick(&CHARACTERS);
@@ -94,6 +95,7 @@ pub fn unopened(s: &mut Session) {
         let _ = s.bytes(&record);
     }
     refused(s);
+    letters::unopened(s);
 }
 
 /// A batch of random lines.

@@ -1,7 +1,7 @@
 //! A short session that reaches every situation: of many made, those that add the most for their length.
 use crate::session::Session;
 use crate::situations::{asked, Situation};
-use crate::{flight, limits, noise, scenes};
+use crate::{flight, letters, limits, noise, scenes};
 use std::collections::HashSet;
 
 /// Times that each scene is tried.
@@ -19,7 +19,7 @@ fn part(seed: u64, make: fn(&mut Session)) -> Part {
     Part { text: s.text, lines: s.lines, reached }
 }
 
-/// Lines before an opening, the session `first`, and the parts.
+/// Lines before an opening, the session `first`, the parts, and last what there is in capitals.
 pub fn replay(first: &[u8], seed: u64) -> Session {
     let mut all = Session::new(seed, 0);
     noise::unopened(&mut all);
@@ -40,6 +40,7 @@ pub fn replay(first: &[u8], seed: u64) -> Session {
             _ => break,
         }
     }
+    letters::each(&mut all);
     all.end_without_lf();
     all
 }

@@ -1,6 +1,7 @@
 //! A session as it is made: its text, the reference that answers each line, and what was reached.
 use crate::coverage::Coverage;
 use crate::layout::{read_line, read_record, Lines};
+use crate::letters;
 use crate::noise;
 use crate::record_bytes::write_record;
 use crate::rng::Rng;
@@ -15,6 +16,8 @@ pub struct Session {
     pub reference: Lines,
     /// One line in so many is preceded by one that is refused; 0 is never.
     noise: u64,
+    /// Chooses the letters of records; without it they are small.
+    letters: Option<Rng>,
 }
 
 pub fn hex(bytes: &[u8]) -> Vec<u8> {
@@ -27,7 +30,13 @@ pub fn record_on(line: &[u8]) -> Result<Record, u8> {
 
 impl Session {
     pub fn new(seed: u64, noise: u64) -> Self {
-        Self { g: Rng::new(seed), text: Vec::new(), answers: Vec::new(), lines: 0, coverage: Coverage::default(), reference: Lines::default(), noise }
+        Self { g: Rng::new(seed), text: Vec::new(), answers: Vec::new(), lines: 0, coverage: Coverage::default(), reference: Lines::default(), noise, letters: None }
+    }
+    /// The same session, its records written in small letters, in capitals and in both. The letters have random numbers of
+    /// their own, so the records are the same.
+    pub fn in_any_letters(mut self, seed: u64) -> Self {
+        self.letters = Some(Rng::new(seed));
+        self
     }
     pub fn line(&mut self, line: &[u8]) -> Result<Answer, u8> {
         self.text.extend_from_slice(line);
@@ -38,7 +47,11 @@ impl Session {
         reply
     }
     pub fn bytes(&mut self, record: &[u8]) -> Result<Answer, u8> {
-        self.line(&hex(record))
+        let mut line = hex(record);
+        if let Some(g) = &mut self.letters {
+            letters::any(g, &mut line);
+        }
+        self.line(&line)
     }
     /// A record to an open unit, or an opening; a line that changes nothing may come before it.
     pub fn send(&mut self, record: Record) -> Answer {

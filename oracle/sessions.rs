@@ -12,6 +12,7 @@
 mod coverage;
 mod flights;
 mod layout;
+mod letters;
 mod limits;
 mod noise;
 mod record_bytes;
@@ -37,8 +38,9 @@ fn flight(s: &mut Session) {
 }
 
 fn text(lines: u64, seed: u64) -> Session {
-    let mut s = Session::new(seed, 40);
+    let mut s = Session::new(seed, 40).in_any_letters(!seed);
     noise::unopened(&mut s);
+    letters::each(&mut s);
     limits::each(&mut s);
     scenes::many(&mut s);
     let mut scene = scenes::ALL.iter().cycle();

@@ -3,7 +3,7 @@ use crate::layout::LENGTHS;
 use crate::session::hex;
 
 /// Lines of one and two characters, records of two bytes, each kind at each length to 40 with three
-/// fillings; all but openings.
+/// fillings, the last in capitals too where they have letters; all but openings.
 fn lines() -> Vec<Vec<u8>> {
     let characters: Vec<u8> = (0..=255).filter(|c| *c != b'\n').collect();
     let mut all: Vec<Vec<u8>> = vec![Vec::new()];
@@ -16,7 +16,12 @@ fn lines() -> Vec<Vec<u8>> {
                 let mut record = vec![fill; n];
                 record[0] = kind;
                 if kind != 0 || n != LENGTHS[0] {
-                    all.push(hex(&record));
+                    let small = hex(&record);
+                    let capitals = small.to_ascii_uppercase();
+                    if capitals != small {
+                        all.push(capitals);
+                    }
+                    all.push(small);
                 }
             }
         }

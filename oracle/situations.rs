@@ -33,7 +33,14 @@ pub fn asked(many: bool) -> Vec<Situation> {
     each("08 note", &mut (1..7));
     each("0c faulted and retrying", &mut [0, 1, 10, 11].into_iter());
     each("0c count above 0, its place", &mut (0..10));
-    each("2: character", &mut CHARACTERS.iter().map(|c| *c as u64));
+    // 06, 08 and 09 have no letter, 0c, 0d and 0e have one
+    each("in capitals, kind", &mut [0, 1, 2, 3, 4, 5, 7, 10, 11, 12, 13, 14].into_iter());
+    each("in small letters and capitals, kind", &mut [0, 1, 2, 3, 4, 5, 7, 10, 11].into_iter());
+    each("a capital", &mut (b'A'..=b'F').map(u64::from));
+    each("a byte of both letters, the capital at", &mut (0..2));
+    each("05, its byte in capitals, bytes held", &mut (0..10));
+    each("refused with capitals, number", &mut (1..9));
+    each("2: character", &mut CHARACTERS.iter().filter(|c| !c.is_ascii_hexdigit()).map(|c| *c as u64));
     each("3: characters", &mut (1..58).step_by(2));
     each("4: kind", &mut [0x0f, 0x10, 0x7f, 0x80, 0xff].into_iter());
     // a record of one byte has none to spare, and an opening with one more is too wide a line

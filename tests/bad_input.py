@@ -25,7 +25,7 @@ def number(line, opened):
     """The lowest number that fits a line, or None where it is accepted."""
     if len(line) > 58:
         return 1
-    if any(character not in b"0123456789abcdef" for character in line):
+    if any(character not in b"0123456789abcdefABCDEF" for character in line):
         return 2
     if len(line) % 2:
         return 3
@@ -70,12 +70,19 @@ def whole_texts():
     yield b"06\n" + opening + b"\n06\n", "08\n00\n00\n"
 
 
+def spelt(record):
+    """A record in small letters, in capitals and in both, where it has letters."""
+    small = record.hex()
+    both = "".join(character.upper() if place % 2 else character for place, character in enumerate(small))
+    return sorted({line.encode() for line in (small, small.upper(), both)})
+
+
 def lines():
-    """Lines that are refused whatever the unit holds."""
+    """Lines of one character and two, wide ones and odd ones, kinds above 0e: `number` says which are refused."""
     yield from (b"0" * 57, b"0" * 59, b"g" * 58, b"g" * 59, b"g" * 57, b"0" * 1_000_000)
     yield from (bytes([character]) for character in range(256) if character != 0x0a)
     yield from (b"0" + bytes([character]) for character in range(256) if character != 0x0a)
-    yield from (b"\x00", b"06\x00", b"\xff\xff", b"0A", b"0x06", b" 06", b"06 ", "é".encode())
+    yield from (b"\x00", b"06\x00", b"\xff\xff", b"06A", b"AG", b"@A", b"A" * 59, b"0x06", b" 06", b"06 ", "é".encode())
     yield from (b"%02x" % kind for kind in range(0x0f, 0x100))
 
 
@@ -83,12 +90,12 @@ def records():
     """Every kind with every length from 0 to 40, and the bytes about the ends of lane and flag."""
     for kind in range(0x11):
         for length in range(41):
-            yield bytes([kind] + [0] * length).hex().encode()
+            yield from spelt(bytes([kind] + [0] * length))
     for kind, at in (LANE_AT | ARMED_AT).items():
         for value in (1, 2, 3, 4, 0xff):
             record = bytearray([kind] + [0] * FIELDS[kind])
             record[at] = value
-            yield record.hex().encode()
+            yield from spelt(record)
 
 
 def refusals(program):
@@ -112,11 +119,13 @@ def refusals(program):
 def answers(program):
     """Each kind's record of zeros, taken by a unit just opened."""
     for kind, answer in enumerate(ZEROS):
-        record = bytes([kind] + [0] * FIELDS[kind]).hex()
-        compare(program, f"{OPENING}\n{record}\n".encode(), f"00\n{answer}\n")
-    # lane 3 and armed are taken; neither names what the unit holds
+        for record in spelt(bytes([kind] + [0] * FIELDS[kind])):
+            compare(program, f"{OPENING}\n{record.decode()}\n".encode(), f"00\n{answer}\n")
+    # lane 3 and armed are taken, and any time, in whatever letters; none of these names what the unit holds
     for line, answer in (("02000000000300" + "00" * 7, "0000"), ("0701" + "00" * 8, "0000"),
-                         ("0d03", "0000"), ("0e03", "00" + "00" * 7)):
+                         ("0d03", "0000"), ("0e03", "00" + "00" * 7), ("0D03", "0000"), ("0E03", "00" + "00" * 7),
+                         ("01" + "ABCDEF" * 2 + "ABCD", ZEROS[1]), ("04" + "aBcDeF" * 2 + "FfAa", "0000"),
+                         ("05E7" + "AbCdEf" * 2 + "0dD0", "0000"), ("0B" + "F" * 16, "0000")):
         compare(program, f"{OPENING}\n{line}\n".encode(), f"00\n{answer}\n")
 
 

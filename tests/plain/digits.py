@@ -10,7 +10,7 @@ def pairs(records, answers):
 def silent_bytes(session):
     """The plain line of each wire byte that brings no reading, by its number."""
     return {
-        number: f"{number:>6}  {int(record[4:], 16):>7} ms  wire byte (05): {record[2:4]} → no reading"
+        number: f"{number:>6}  {int(record[4:], 16):>7} ms  wire byte (05): {record[2:4].lower()} → no reading"
         for number, record, answer in session if record[:2] == "05" and answer == "0000"
     }
 

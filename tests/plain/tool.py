@@ -10,6 +10,7 @@ SESSIONS = {
     "session": (DOCS, []),
     "four-arms": (DOCS, ["--map", "1234", "--magnets", "14"]),
     "every-kind": (STORED, []),
+    "capitals": (DOCS, []),
 }
 REPLAY = ROOT / "crates/unitlines/stdin", ROOT / "crates/unitlines/stdout"
 

@@ -5,7 +5,8 @@ from typing import NamedTuple
 from .tables import KINDS, Choice, Form
 
 LONGEST = 58
-DIGITS = frozenset(b"0123456789abcdef")
+PRINTED = frozenset(b"0123456789abcdef")
+DIGITS = PRINTED | frozenset(b"ABCDEF")
 
 
 class Unfit(Exception):
@@ -113,6 +114,8 @@ def read_record(line, opened):
 @lru_cache(maxsize=256)
 def read_answer(kind, answer):
     """What the answer to an accepted record of a kind says."""
+    if not PRINTED.issuperset(answer):
+        raise Unfit
     try:
         data = digits(answer)
     except Refused:

@@ -1,11 +1,19 @@
--- Read in this order: digits, two by two; a line, read and printed, and read again (to RoundTrip); a line that is held; the first line of a chunk.
+-- Read in this order: a character in small letters; digits, two by two; a line, what it is refused for, printed and read again (to RoundTrip);
+-- as it was read before capitals were digits, and that none is printed; a line that is held; the first line of a chunk.
+pub mod SmallLaws
 pub mod DigitLaws
+pub mod DigitCases
+pub mod TypedDigits
 pub mod Unended
 pub mod PairsLaws
 pub mod PairsRead
 pub mod LineLaws
+pub mod OthersRefused
 pub mod PrintLaws
 pub mod RoundTrip
+pub mod AsBefore
+pub mod LineCases
+pub mod PrintedSmall
 pub mod HeldLaws
 pub mod FirstLine
 pub mod NextLineLaws

@@ -3,7 +3,7 @@ use Rattle.std.proofs.Common.{◌≡◌, ℕ, ◌+◌, ◌*◌, ◌%◌, true, f
 use Rattle.std.proofs.lemmas.Bool.Decides.{nat_tests}
 use mathlib.Core.Bool.{false≢true}
 use Rattle.base.proofs.Both.{and_left, and_right}
-use Rattle.hex_lines.specs.Digit.{digit_of, is_digit, pair_of}
+use Rattle.hex_lines.specs.Digit.{small_digit, small, digit_of, is_digit, pair_of}
 use Rattle.hex_lines.specs.Line.{all_digits, pairs}
 use Rattle.hex_lines.proofs.Unended.{Unended}
 
@@ -28,7 +28,7 @@ module _ (c d : ℕ) where
 
 -- LF is no digit
 pub unended-digits : (line : List ℕ) → all_digits line ≡ true → Unended line
-unfolding all_digits digit_of
+unfolding all_digits digit_of small small_digit
 unended-digits [] e = tt
 unended-digits (c ∷ line) e =
     (λ lf. false≢true (sym (ap is_digit lf) ∙ and_left (is_digit c) _ e), unended-digits line (and_right (is_digit c) _ e))

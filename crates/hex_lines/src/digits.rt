@@ -1,4 +1,4 @@
-// The digits of a line: 0-9 and a-f.
+// The digits of a line: 0-9, a-f and A-F when it is read, 0-9 and a-f when it is printed.
 ghost use Rattle.std.specs.Prelude.{◌≡◌, ◌<◌};
 ghost use Rattle.hex_lines.specs.Digit.{value_of, is_digit, pair_of, glyph_of, DigitTabled};
 
@@ -45,13 +45,14 @@ impl Digits {
 }
 
 // The value of a digit.
-#[tactic(auto, unfolding(crate::specs::Digit::value_of, crate::specs::Digit::digit_of))]
+#[tactic(auto, unfolding(crate::specs::Digit::value_of, crate::specs::Digit::digit_of, crate::specs::Digit::small, crate::specs::Digit::small_digit))]
 fn value_of(character: u8) -> Option<u8>
     ensures { result ≡ value_of character }
 {
     match character {
         b'0'..=b'9' => Some(character - b'0'),
         b'a'..=b'f' => Some(character - b'a' + 10),
+        b'A'..=b'F' => Some(character - b'A' + 10),
         _ => None,
     }
 }

@@ -7,7 +7,7 @@ use Rattle.base.specs.Reply.{accepted}
 use Rattle.esc_records.specs.Record.{record_of, read_record}
 use Rattle.esc_records.specs.declared.record.Record.TheVariants as kind
 use Rattle.esc_records.proofs.RecordLaws.{read-accepted}
-use Rattle.hex_lines.specs.Digit.{digit_of, pair_of}
+use Rattle.hex_lines.specs.Digit.{small_digit, small, digit_of, pair_of}
 use Rattle.hex_lines.specs.Line.{line_end, all_digits, pairs}
 use Rattle.hex_lines.specs.NextLine.{first_line}
 use Rattle.record_lines.specs.NextRecord.{record_by}
@@ -43,7 +43,7 @@ wire_line_read : (chunk : List ℕ) → 4 ≤ length chunk → get_or chunk 0 0 
     → (v : ℕ) → pair_of (get_or chunk 2 0) (get_or chunk 3 0) ≡ Some v
     → (time behind : List ℕ) → length time ≡ 16 → drop 4 chunk ≡ time ++ behind → 0 < length behind → get_or behind 0 0 ≡ line_end
     → (t : ℕ) → NumberRead time t → WireAt chunk (record { byte = v; at_ms = t })
-unfolding all_digits pairs digit_of
+unfolding all_digits pairs digit_of small small_digit
 wire_line_read [] h z f v p time behind l e b lf t n = absurd (omega arith)
 wire_line_read (x ∷ []) h z f v p time behind l e b lf t n = absurd (omega arith)
 wire_line_read (x ∷ y ∷ []) h z f v p time behind l e b lf t n = absurd (omega arith)

@@ -64,3 +64,36 @@ fn number(digits: &Digits, text: &[u8; TIME]) -> Option<u64>
     }
     Some(number)
 }
+
+#[cfg(test)]
+mod tests {
+    use super::*;
+    use std::test::Fail;
+
+    // No contract says which lines are read in this way: one in capitals is, and one in both letters.
+    #[test]
+    fn capitals_are_read_straight(rt: HostRuntime) -> Result<(), Fail> {
+        let (digits, line, parser) = (Digits::new(), HeldLine::new(), StreamParser::new());
+        let capitals = collected_byte(&digits, b"05E7000000000000ABD6\n06\n", &line, parser);
+        assert!(rt;
+            matches!(
+                capitals,
+                Some(WireByte {
+                    byte: 0xe7,
+                    at_ms: 0xabd6
+                })
+            )
+        );
+        let both = collected_byte(&digits, b"05eF00fF0000Aa00aBd9\n", &line, parser);
+        assert!(rt;
+            matches!(
+                both,
+                Some(WireByte {
+                    byte: 0xef,
+                    at_ms: 0x00ff_0000_aa00_abd9
+                })
+            )
+        );
+        Ok(())
+    }
+}

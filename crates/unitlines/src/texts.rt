@@ -3,7 +3,7 @@ use crate::output::NotWritten;
 
 // The project's version; tests/arguments.py holds the README to it.
 pub(crate) fn print_version(rt: &HostRuntime) -> Result<(), NotWritten> {
-    print(rt, b"unitlines 0.1.0\n")
+    print(rt, b"unitlines 0.2.0\n")
 }
 
 pub(crate) fn print_help(rt: &HostRuntime) -> Result<(), NotWritten> {
