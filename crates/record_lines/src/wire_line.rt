@@ -70,29 +70,19 @@ mod tests {
     use super::*;
     use std::test::Fail;
 
+    // The byte and its time, of a chunk in which a line begins.
+    fn read(chunk: &[u8]) -> Option<(u8, u64)> {
+        let wire = collected_byte(&Digits::new(), chunk, &HeldLine::new(), StreamParser::new())?;
+        Some((wire.byte, wire.at_ms))
+    }
+
     // No contract says which lines are read in this way: one in capitals is, and one in both letters.
     #[test]
     fn capitals_are_read_straight(rt: HostRuntime) -> Result<(), Fail> {
-        let (digits, line, parser) = (Digits::new(), HeldLine::new(), StreamParser::new());
-        let capitals = collected_byte(&digits, b"05E7000000000000ABD6\n06\n", &line, parser);
-        assert!(rt;
-            matches!(
-                capitals,
-                Some(WireByte {
-                    byte: 0xe7,
-                    at_ms: 0xabd6
-                })
-            )
-        );
-        let both = collected_byte(&digits, b"05eF00fF0000Aa00aBd9\n", &line, parser);
-        assert!(rt;
-            matches!(
-                both,
-                Some(WireByte {
-                    byte: 0xef,
-                    at_ms: 0x00ff_0000_aa00_abd9
-                })
-            )
+        assert_eq!(rt; read(b"05E7000000000000ABD6\n06\n"), Some((0xe7, 0xabd6)));
+        assert_eq!(rt;
+            read(b"05eF00fF0000Aa00aBd9\n"),
+            Some((0xef, 0x00ff_0000_aa00_abd9))
         );
         Ok(())
     }
