@@ -18,9 +18,9 @@ extern "C" {
 /* What a call that can be refused answers. Where several numbers apply, the lowest is given. */
 enum {
     ESC_ACCEPTED = 0,
-    ESC_LENGTH = 5,      /* a frame that is not ten bytes, a map that is not four */
-    ESC_LANE = 6,        /* a lane above 3, a motor that is not 1 to 4 */
-    ESC_SPACE = 9,       /* a lent output that is too short */
+    ESC_LENGTH = 5,      /* a frame that is not ten bytes, a map that is not four, samples' bytes that are no multiple of 22 */
+    ESC_LANE = 6,        /* a lane above 3, that of a sample too; a motor that is not 1 to 4 */
+    ESC_SPACE = 9,       /* a lent output that is too short for all that is written */
     ESC_CHECK_BYTE = 10, /* a frame's tenth byte that is not the CRC of the nine */
     ESC_MAGNETS = 11,    /* a count of magnets that is zero or odd */
     ESC_MAP = 12         /* a map that does not hold each of 1 to 4 once */
@@ -31,6 +31,9 @@ enum { ESC_FRAME_BYTES = 10, ESC_FRAME_FIELDS = 5, ESC_PARSER_COUNTS = 3 };
 
 /* How many characters an answer takes at most, its LF included. */
 enum { ESC_ANSWER_CHARACTERS = 87 };
+
+/* How many bytes a lent sample has, how many samples a page of the paper sheet, and how many characters. */
+enum { ESC_SAMPLE_BYTES = 22, ESC_PAGE_SAMPLES = 40, ESC_PAGE_CHARACTERS = 2214 };
 
 /* A whole session: a record in hexadecimal (0-9, a-f, A-F) on each line of `text`, an answer on a line of `out` for each,
  * its letters small.
@@ -72,6 +75,14 @@ uint8_t esc_motor_of_lane(const uint8_t *map, size_t len, uint8_t lane, uint8_t 
 
 /* From a motor to its lane: 0 and `*lane`; or 5, 6, 12. */
 uint8_t esc_lane_of_motor(const uint8_t *map, size_t len, uint8_t motor, uint8_t *lane);
+
+/* The paper sheet of delivered samples, in their order. `samples` has 22 bytes for each, one sample behind the other, as
+ * an answer has them: lane, sequence (4), observed time (8), the nine of the frame, numbers highest byte first. `map` is
+ * the board map's four bytes.
+ * 0, and `*written` is how many characters the sheet has: 2214 for each page, which holds 40 samples; no samples give one
+ * page. They are the first of `out`, and the rest stays as it was. Or 5, 6, 9, 11, 12. */
+uint8_t esc_sheet(const uint8_t *samples, size_t len, const uint8_t *map, size_t map_len, uint8_t magnets, uint8_t *out,
+                  size_t room, size_t *written);
 
 #ifdef __cplusplus
 }

@@ -21,7 +21,7 @@ WIDEST = 160
 # what a definition of specs/ says of the result where no equation could
 FREE = {"find_frame": "Searched", "esc_find_frame": "Searched"}
 # crates that are a part of others
-PARTS = {"hex_lines": ["record_lines", "unit_text"], "record_lines": ["unit_text"]}
+PARTS = {"hex_lines": ["answer_lines", "record_lines", "unit_text"], "record_lines": ["unit_text"]}
 # what of them has a `requires`
 ASKS = {"print_line"}
 

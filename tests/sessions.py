@@ -3,10 +3,11 @@
 
 Each NAME-answers.txt in docs/ and tests/plain/ is the output for NAME.txt beside it, as it stands, in small letters, in capitals
 and in both. docs/capitals.txt is the text that is proved to have its answers; it is cut at each of its places, so that the
-program reads it in two parts. README.md's command with `tr` prints what it says. The table of README.md and the
-numbered lines of docs/BOOKING.md are lines of such a session; docs/request.svg is what docs/draw.py draws.
+program reads it in two parts. docs/four-arms-sheet.txt is the sheet of docs/four-arms.txt. README.md's commands with `tr` and with
+`flightsheet` print what it says. The table of README.md and the numbered lines of docs/BOOKING.md are lines of such a session;
+docs/request.svg is what docs/draw.py draws.
 
-    python3 tests/sessions.py crates/unitlines/out/unitlines
+    python3 tests/sessions.py crates/unitlines/out/unitlines crates/flightsheet/out/flightsheet
 """
 import re
 import socket
@@ -75,12 +76,27 @@ def cut(program):
     return len(places)
 
 
-def commanded(program):
-    """What README.md says to do with capitals."""
-    (command,) = re.findall(r"^    (tr a-f A-F .*)$", (ROOT / "README.md").read_text(), re.M)
-    done = subprocess.run(command.replace("crates/unitlines/out/unitlines", program), shell=True, cwd=ROOT, capture_output=True, timeout=60)
-    if done.returncode or done.stdout or done.stderr:
-        sys.exit(f"sessions: {command}: exit {done.returncode}, said {done.stdout + done.stderr!r}")
+def filed(program, flightsheet):
+    """The sheet of docs/four-arms.txt, by both programs."""
+    answers = whole(program, (DOCS / "four-arms.txt").read_bytes())
+    made = subprocess.run([flightsheet, "4213", "14"], input=answers, capture_output=True, timeout=60)
+    if told(answers, made) != (DOCS / "four-arms-sheet.txt").read_bytes():
+        sys.exit("sessions: docs/four-arms.txt does not make docs/four-arms-sheet.txt")
+
+
+def commanded(program, flightsheet):
+    """What README.md says to do with capitals, and to make a sheet, of which it shows the first rows."""
+    readme = (ROOT / "README.md").read_text()
+    (compared,) = re.findall(r"^    (tr a-f A-F .*)$", readme, re.M)
+    (shown,) = re.findall(r"^    (.* \| crates/flightsheet/out/flightsheet .*)\n(?:(?!```).*\n)*```\n((?:(?!```).*\n)*)```$", readme, re.M)
+    for command, wanted in ((compared, ""), shown):
+        places = {"crates/unitlines/out/unitlines": program, "crates/flightsheet/out/flightsheet": flightsheet}
+        run = re.sub("|".join(places), lambda found: places[found[0]], command)
+        done = subprocess.run(run, shell=True, cwd=ROOT, capture_output=True, text=True, timeout=60)
+        # README.md shows no blanks at the ends of rows
+        printed = re.sub(" +$", "", done.stdout, flags=re.M)
+        if done.returncode or printed != wanted or done.stderr:
+            sys.exit(f"sessions: {command}: exit {done.returncode}, said {done.stdout + done.stderr!r}")
 
 
 def proved():
@@ -122,17 +138,18 @@ def tabled():
 
 
 def main():
-    program = str(Path(sys.argv[1]).resolve())
+    program, flightsheet = (str(Path(path).resolve()) for path in sys.argv[1:])
     count = printed(program)
     places = cut(program)
-    commanded(program)
+    filed(program, flightsheet)
+    commanded(program, flightsheet)
     proved()
     drawn()
     tabled()
     shown = numbered()
     if shown < 14:
         sys.exit(f"sessions: docs/BOOKING.md shows {shown} numbered lines, not 14: has their format changed?")
-    print(f"sessions: {count} sessions as printed, in small letters, capitals and both, one cut at {places} places, the drawing and the {shown} lines shown are theirs")
+    print(f"sessions: {count} sessions as printed, in small letters, capitals and both, one cut at {places} places, a sheet, the drawing and the {shown} lines shown are theirs")
 
 
 main()

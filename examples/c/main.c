@@ -1,4 +1,4 @@
-/* Every call of include/esc_unit.h: a session on standard input, then vectors of crates/vectors and document 01. */
+/* Every call of include/esc_unit.h: a session on standard input, then vectors of crates/vectors and document 01, and a sheet. */
 #include "esc_unit.h"
 
 #include <stdio.h>
@@ -171,6 +171,24 @@ static void speed(uint16_t erpm_div100, uint8_t magnets)
         printf("speed %u %u %lu\n", erpm_div100, magnets, (unsigned long)rpm);
 }
 
+/* Row one and the row of the reading of arm 3, from docs/four-arms.txt. */
+static void sheet(uint8_t magnets)
+{
+    static const uint8_t sample[ESC_SAMPLE_BYTES] = {3, 0, 0, 0, 3, 0, 0, 0, 0, 0, 0, 0x16, 0x21, 0x39, 0x06, 0x2b, 0x01, 0x92,
+                                                     0, 0xe7, 0, 0x51};
+    static const uint8_t map[] = {4, 2, 1, 3};
+    static uint8_t page[ESC_PAGE_CHARACTERS];
+    size_t written = 0;
+    uint8_t number = esc_sheet(sample, sizeof sample, map, sizeof map, magnets, page, sizeof page, &written);
+    if (number != ESC_ACCEPTED) {
+        printf("sheet: refused %u\n", number);
+        return;
+    }
+    printf("sheet: %lu characters\n", (unsigned long)written);
+    for (int row = 0; row < 2; row++)
+        printf("sheet |%.53s|\n", (const char *)page + 54 * row);
+}
+
 int main(void)
 {
     session();
@@ -182,6 +200,8 @@ int main(void)
     board_maps();
     speed(70, 14);
     speed(70, 13);
+    sheet(14);
+    sheet(13);
     if (fflush(stdout) != 0 || ferror(stdout))
         fail("standard output can't be written");
     return 0;

@@ -16,6 +16,7 @@ pub mod raw {
         pub fn esc_motor_speed(erpm_div100: u16, magnets: u8, rpm: *mut u32) -> u8;
         pub fn esc_motor_of_lane(map: *const u8, len: usize, lane: u8, motor: *mut u8) -> u8;
         pub fn esc_lane_of_motor(map: *const u8, len: usize, motor: u8, lane: *mut u8) -> u8;
+        pub fn esc_sheet(samples: *const u8, len: usize, map: *const u8, map_len: usize, magnets: u8, out: *mut u8, room: usize, written: *mut usize) -> u8;
     }
 }
 
@@ -37,6 +38,11 @@ pub const FRAME_FIELDS: usize = 5;
 
 /// How many characters an answer takes at most, its LF included.
 pub const ANSWER_CHARACTERS: usize = 87;
+
+/// How many bytes a lent sample has, how many samples a page of the paper sheet, and how many characters.
+pub const SAMPLE_BYTES: usize = 22;
+pub const PAGE_SAMPLES: usize = 40;
+pub const PAGE_CHARACTERS: usize = 2214;
 
 fn accepted<T>(number: u8, value: T) -> Result<T, Refused> {
     if number == 0 {
@@ -112,4 +118,11 @@ pub fn lane_of_motor(map: &[u8], motor: u8) -> Result<u8, Refused> {
     let mut lane = 0;
     let number = unsafe { raw::esc_lane_of_motor(map.as_ptr(), map.len(), motor, &mut lane) };
     accepted(number, lane)
+}
+
+/// How many characters the sheet of lent samples has.
+pub fn sheet(samples: &[u8], map: &[u8], magnets: u8, out: &mut [u8]) -> Result<usize, Refused> {
+    let mut written = 0;
+    let number = unsafe { raw::esc_sheet(samples.as_ptr(), samples.len(), map.as_ptr(), map.len(), magnets, out.as_mut_ptr(), out.len(), &mut written) };
+    accepted(number, written)
 }

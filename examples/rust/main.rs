@@ -1,9 +1,11 @@
-//! Every call of esc_unit.rs: a session on standard input, then vectors of crates/vectors and document 01.
+//! Every call of esc_unit.rs: a session on standard input, then vectors of crates/vectors and document 01, and a sheet.
 mod esc_unit;
 use esc_unit::*;
 use std::io::{self, Read, Write};
 
 const CRUISE: [u8; FRAME_BYTES] = *b"\x19\x06\x90\x04\xd2\x02\x37\x04\xd2\xbc";
+/// The reading of arm 3, from docs/four-arms.txt.
+const SAMPLE: [u8; SAMPLE_BYTES] = *b"\x03\0\0\0\x03\0\0\0\0\0\0\x16\x21\x39\x06\x2b\x01\x92\0\xe7\0\x51";
 const COUNTING: [u8; FRAME_BYTES] = *b"\x01\x02\x03\x04\x05\x06\x07\x08\x09\x85";
 
 fn hex(bytes: &[u8]) -> String {
@@ -69,6 +71,16 @@ fn speed(out: &mut impl Write, erpm_div100: u16, magnets: u8) -> io::Result<()> 
     }
 }
 
+/// Row one and the row below it, of a sheet in all the room that it needs.
+fn first_rows(out: &mut impl Write, samples: &[[u8; SAMPLE_BYTES]], magnets: u8) -> io::Result<()> {
+    let mut text = vec![0; samples.len().div_ceil(PAGE_SAMPLES).max(1) * PAGE_CHARACTERS];
+    match sheet(samples.as_flattened(), &[4, 2, 1, 3], magnets, &mut text) {
+        Ok(written) => writeln!(out, "sheet: {written} characters")?,
+        Err(Refused(number)) => return writeln!(out, "sheet: refused {number}"),
+    }
+    text.split(|c| *c == b'\n').take(2).try_for_each(|row| writeln!(out, "sheet |{}|", row.escape_ascii()))
+}
+
 fn main() -> io::Result<()> {
     let out = &mut io::stdout().lock();
     answers(out)?;
@@ -87,5 +99,7 @@ fn main() -> io::Result<()> {
     board_map(out, &[1, 2, 3])?;
     board_map(out, &[1, 2, 3, 3])?;
     speed(out, 70, 14)?;
-    speed(out, 70, 13)
+    speed(out, 70, 13)?;
+    first_rows(out, &[SAMPLE], 14)?;
+    first_rows(out, &[SAMPLE], 13)
 }

@@ -1,7 +1,7 @@
 -- The board map (document 01): the motor of each lane and the lane of each motor, and reading a map from its four bytes.
 use Rattle.std.specs.Prelude.{ℕ, List, [], ◌∷◌, ◌==◌, length, get_or, find, unwrap_or}
 use Rattle.base.specs.Choice.{pick}
-use Rattle.base.specs.Reply.{Reply, accepted, refused}
+use Rattle.base.specs.Reply.{Reply, accepted, refused, converted}
 use Rattle.esc_lanes.specs.Output.{lane_of, all_outputs, read_lane}
 use Rattle.esc_lanes.specs.declared.output.Lane.TheVariants.{Output4}
 use Rattle.esc_lanes.specs.declared.output.EscOutput.{EscOutput}
@@ -18,11 +18,6 @@ motor_on m o = get_or m.motors (lane_of o) (record { 0 = One })
 -- the lane of a motor: the first that has it, and lane 3 where none does
 unfoldable pub output_with : BoardMap → Motor → EscOutput
 output_with m k = unwrap_or (find (λ o. same_motor (motor_on m o) k) all_outputs) (record { 0 = Output4 })
-
--- what was read, converted; a refusal stays
-abbrev pub converted : {A B : Type 0} → (A → B) → Reply A → Reply B
-converted f (accepted a) = accepted (f a)
-converted f (refused n) = refused n
 
 -- the two conversions from a byte
 abbrev pub motor_on_byte : BoardMap → ℕ → Reply Motor

@@ -3,10 +3,12 @@
 #![tactic(auto)]
 
 mod board_map;
+mod magnets;
 mod motor;
 mod once;
 mod speed;
 
 pub use board_map::BoardMap;
+pub use magnets::Magnets;
 pub use motor::{Motor, MotorNumber};
 pub use speed::motor_speed;

@@ -11,6 +11,11 @@ abbrev pub is_accepted : {A : Type 0} → Reply A → Bool
 is_accepted (accepted a) = true
 is_accepted (refused n) = false
 
+-- what was accepted, converted; a refusal stays
+abbrev pub converted : {A B : Type 0} → (A → B) → Reply A → Reply B
+converted f (accepted a) = accepted (f a)
+converted f (refused n) = refused n
+
 -- what a call for C answers: 0 where it is accepted, else document 01's number
 abbrev pub number_of : {A : Type 0} → Reply A → ℕ
 number_of (accepted a) = 0

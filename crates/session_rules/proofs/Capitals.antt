@@ -11,8 +11,9 @@ use Rattle.hex_lines.specs.Capitals.{lowered, no_capitals}
 use Rattle.hex_lines.proofs.SmallLaws.{small-end, small-no-end}
 use Rattle.hex_lines.proofs.AsBefore.{lowered-twice, lowered-none, read-lowered}
 use Rattle.hex_lines.proofs.PrintedSmall.{none-joined, line-small}
-use Rattle.unit_text.specs.Session.{lines_from, lines_of, answer_line, unit_after, line_text, lines_text, session_text}
-use Rattle.unit_text.proofs.LinesLaws.{lines-at-end, lines-at-other}
+use Rattle.hex_lines.specs.Lines.{lines_from, lines_of}
+use Rattle.unit_text.specs.Session.{answer_line, unit_after, line_text, lines_text, session_text}
+use Rattle.hex_lines.proofs.LinesLaws.{lines-at-end, lines-at-other}
 use Rattle.session_rules.specs.Capitals.{text_before, session_before, CapitalsAlike, AnsweredAsBefore, PrintedSmall}
 
 -- the end of input ends a line or not, lowered or not

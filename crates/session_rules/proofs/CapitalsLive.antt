@@ -33,7 +33,8 @@ use Rattle.hex_lines.specs.Digit.{small_digit, small, digit_of, glyph_of}
 use Rattle.hex_lines.specs.Line.{line_end, all_digits, pairs, read_line, hex_of, printed_line}
 use Rattle.hex_lines.specs.Capitals.{lowered, no_capitals}
 use Rattle.hex_lines.specs.LineBefore.{pairs_before, read_before}
-use Rattle.unit_text.specs.Session.{lines_from, answer_line, line_text}
+use Rattle.hex_lines.specs.Lines.{lines_from}
+use Rattle.unit_text.specs.Session.{answer_line, line_text}
 use Rattle.unit_text.specs.Stream.{at_start, after_one, printed_at, after, printed, printed_at_end}
 use Rattle.session_rules.specs.Pieces.{pieces}
 use Rattle.session_rules.specs.Capitals.{text_before, session_before}

@@ -10,7 +10,8 @@ use Rattle.booking.specs.Rule.{rule_for}
 use Rattle.booking.proofs.Traced.{Fits, called}
 use Rattle.esc_answers.specs.Answer.{longest_answer}
 use Rattle.hex_lines.specs.Line.{read_line}
-use Rattle.unit_text.specs.Session.{lines_of, answer_on, answer_line, unit_after, line_text, lines_text, session_text}
+use Rattle.hex_lines.specs.Lines.{lines_of}
+use Rattle.unit_text.specs.Session.{answer_on, answer_line, unit_after, line_text, lines_text, session_text}
 use Rattle.session_rules.specs.Traced.{ruled, history_after, lines_traced, traced_text}
 
 -- a line's reply, and the unit that it leaves

@@ -6,7 +6,8 @@ use Rattle.esc_unit.specs.declared.unit.Unit.{Unit}
 use Rattle.hex_lines.specs.Line.{printed_line}
 use Rattle.hex_lines.specs.Capitals.{lowered, no_capitals}
 use Rattle.hex_lines.specs.LineBefore.{read_before}
-use Rattle.unit_text.specs.Session.{lines_of, answer_on, session_text}
+use Rattle.hex_lines.specs.Lines.{lines_of}
+use Rattle.unit_text.specs.Session.{answer_on, session_text}
 
 -- a session as it was before A-F were digits: each line is read as it was then, and answered and printed as ever
 unfoldable pub text_before : Unit → List (List ℕ) → List ℕ

@@ -6,7 +6,7 @@ use Rattle.esc_answers.specs.declared.answer.Answer.{Answer}
 use Rattle.booking.specs.History.{Call, History}
 use Rattle.booking.specs.Rule.{rule_for}
 use Rattle.hex_lines.specs.Line.{read_line, printed_line}
-use Rattle.unit_text.specs.Session.{lines_of}
+use Rattle.hex_lines.specs.Lines.{lines_of}
 
 abbrev pub call_for : List ℕ → Call
 call_for bytes = record { bytes = bytes; room = longest_answer }

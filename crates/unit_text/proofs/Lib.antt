@@ -1,6 +1,5 @@
 -- Read in this order: the session, in chunks too (to SessionLaws); then the code's way: a line's answer,
 -- the loop over a chunk, the end, a whole text.
-pub mod LinesLaws
 pub mod HeldAnswer
 pub mod AnswerLength
 pub mod StreamLaws

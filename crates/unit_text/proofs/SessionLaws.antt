@@ -9,11 +9,12 @@ use lib.Dec.{eqb}
 use lib.ListN.{length, take}
 use Rattle.esc_unit.specs.declared.unit.Unit.{Unit}
 use Rattle.hex_lines.specs.Line.{line_end, most_held}
-use Rattle.unit_text.specs.Session.{lines_from, unit_after, line_text, lines_text, session_text}
+use Rattle.hex_lines.specs.Lines.{lines_from}
+use Rattle.unit_text.specs.Session.{unit_after, line_text, lines_text, session_text}
 use Rattle.unit_text.specs.Stream.{Streamed, at_start, after_one, printed_at, after, printed, printed_at_end}
 use Rattle.hex_lines.proofs.HeldLaws.{enough-more}
 use Rattle.unit_text.proofs.HeldAnswer.{enough-unit, enough-text}
-use Rattle.unit_text.proofs.LinesLaws.{lines-at-end, lines-at-other}
+use Rattle.hex_lines.proofs.LinesLaws.{lines-at-end, lines-at-other}
 use Rattle.unit_text.proofs.StreamLaws.{passed, after-end, printed-end, after-other, printed-other}
 
 abbrev all : Streamed → List ℕ → List ℕ

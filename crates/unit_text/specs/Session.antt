@@ -1,20 +1,11 @@
 -- A session (document 01, 'Records'): the lines of a text, each answered by the unit that the one before left.
-use Rattle.std.specs.Prelude.{ℕ, List, [], ◌∷◌, ◌++◌, eqb, length}
-use Rattle.base.specs.Choice.{pick}
+use Rattle.std.specs.Prelude.{ℕ, List, [], ◌∷◌, ◌++◌}
 use Rattle.base.specs.Reply.{Reply, accepted, refused}
 use Rattle.esc_unit.specs.Unit.{Replied, refusing, call_of, never_opened}
 use Rattle.esc_answers.specs.Answer.{reply_bytes, longest_answer}
 use Rattle.esc_unit.specs.declared.unit.Unit.{Unit}
-use Rattle.hex_lines.specs.Line.{line_end, read_line, printed_line}
-
--- the lines of a text, where `line` is what came before it of the first: a line is ended by LF or by the end of input; a
--- last LF opens no further line, and empty input holds none
-unfoldable pub lines_from : List ℕ → List ℕ → List (List ℕ)
-lines_from line [] = pick (eqb (length line) 0) [] (line ∷ [])
-lines_from line (c ∷ text) = pick (eqb c line_end) (line ∷ lines_from [] text) (lines_from (line ++ c ∷ []) text)
-
-abbrev pub lines_of : List ℕ → List (List ℕ)
-lines_of text = lines_from [] text
+use Rattle.hex_lines.specs.Line.{read_line, printed_line}
+use Rattle.hex_lines.specs.Lines.{lines_of}
 
 -- a line that stands for no record is refused, and leaves the unit as found
 abbrev pub answer_on : Unit → Reply (List ℕ) → Replied

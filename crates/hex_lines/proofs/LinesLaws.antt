@@ -6,7 +6,7 @@ use borrow.Author.Tests.{eq-eqb, ne_eqb}
 use lib.ListN.{length}
 use Rattle.hex_lines.specs.Line.{line_end}
 use Rattle.hex_lines.proofs.Unended.{Unended}
-use Rattle.unit_text.specs.Session.{lines_from, lines_of}
+use Rattle.hex_lines.specs.Lines.{lines_from, lines_of}
 
 pub lines-at-end : (line text : List ℕ) (c : ℕ) → c ≡ line_end → lines_from line (c ∷ text) ≡ line ∷ lines_of text
 unfolding lines_from

@@ -1,0 +1,3 @@
+-- Samples and their bytes; each from the other.
+pub mod Samples
+pub mod SamplesBack
