@@ -20,7 +20,7 @@ within-fits s (b ∷ bounds) e =
     let here : is_within s b ≡ true = and_left (is_within s b) _ e in
     ((grind (arith, nat_tests, here), grind (arith, nat_tests, here)), within-fits s bounds (and_right (is_within s b) _ e))
 
-pub form-fits : (s : List ℕ) (f : Form) → has_form s f ≡ true → Fits s f
+form-fits : (s : List ℕ) (f : Form) → has_form s f ≡ true → Fits s f
 unfolding has_form
 form-fits s f e =
     record {

@@ -74,7 +74,7 @@ module _ {c : Craft} {f : Flight} {text : List ℕ} {at_first now : Option (List
           ∙ ap (λ (l : List ℕ). delivered_by (lines_of l)) (append-nil text)
 
   -- LF behind the text changes nothing where a line is begun
-  pub flight-ended : any_taken f.reading ≡ true → flight_sheet c.map c.magnets (text ++ 10 ∷ []) ≡ flight_sheet c.map c.magnets text
+  flight-ended : any_taken f.reading ≡ true → flight_sheet c.map c.magnets (text ++ 10 ∷ []) ≡ flight_sheet c.map c.magnets text
   unfolding flight_sheet lines_from
   flight-ended some = ap (λ (taken : List (List ℕ)). sheet_text c.map c.magnets (samples_of taken)) same
     where

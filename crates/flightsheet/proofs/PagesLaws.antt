@@ -5,7 +5,7 @@ use Rattle.std.proofs.Common.{length-drop, length-append, append-nil, eqb-true, 
 use Rattle.std.proofs.lemmas.Bool.{eqb-false}
 use lib.ListN.{length-map}
 use Rattle.std.specs.Io.KnownBytes.{Appends}
-use Rattle.std.proofs.KnownBytes.{Appends-nil, Appends-trans}
+use Rattle.std.proofs.KnownBytes.{Appends-trans}
 use Rattle.std.proofs.lemmas.List.{drop_all, drop-append-le, drop-map, map-append}
 use Rattle.std.proofs.lemmas.List.Elements.{All-drop, All-push}
 use Rattle.std.proofs.lemmas.List.Concat.{flat_map-append}
@@ -33,11 +33,6 @@ pub page-only : (number : ℕ) (bytes held : List ℕ) (map : BoardMap) (magnets
 page-only number bytes held map magnets len out out' same told after long room =
     after ∙ page-alone number bytes map magnets len out (sym told) long room ∙ ap (λ (b : List ℕ). page_text number map magnets (samples_in b)) same
 
--- no sample
-pub filed-none : (p : Pages) (now : Option (List ℕ)) → p.held ≡ [] → p.number ≡ 1 → p.first ≡ true → Filed p.craft p [] now now
-filed-none p now held number first =
-    record { craft = refl; written = Appends-nil now; held = held; number = number; first = first; whole = λ k d h. absurd (omega arith) }
-
 -- what is read of parts that are joined
 parts-read : (parts : List (List ℕ)) → All (Long 22) parts → samples_in (parts_joined parts) ≡ samples_of parts
 parts-read parts each = ap samples_of (parts-back parts each)
@@ -62,7 +57,7 @@ module _ {c : Craft} {p : Pages} {taken : List (List ℕ)} {at_first now : Optio
   page-of-craft after held = subst (λ (c : Craft). Appends now after (page_text p.number c.map c.magnets (samples_in held))) f.craft
 
   -- fewer are held than a page has
-  pub held-length : length p.held ≡ length taken % 40 * 22
+  held-length : length p.held ≡ length taken % 40 * 22
   held-length =
       let left = All-drop (Long 22) (k * 40) taken f.whole in
       ap length f.held ∙ pieces-length 22 (drop (k * 40) taken) left ∙ ap (λ (n : ℕ). n * 22) (length-drop (k * 40) taken ∙ omega arith)

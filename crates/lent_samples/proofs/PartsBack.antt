@@ -14,7 +14,7 @@ module _ (n : ℕ) where
   pieces-length (p ∷ pieces) each =
       rw (length-append p (flat_map (λ p. p) pieces), All-head Long p pieces each, pieces-length pieces (All-tail Long p pieces each)) (omega arith)
 
-  pub chunks-back : (pieces : List (List ℕ)) → All Long pieces → first_chunks n (length pieces) (flat_map (λ p. p) pieces) ≡ pieces
+  chunks-back : (pieces : List (List ℕ)) → All Long pieces → first_chunks n (length pieces) (flat_map (λ p. p) pieces) ≡ pieces
   chunks-back [] each = refl
   chunks-back (p ∷ pieces) each =
       let rest = flat_map (λ (q : List ℕ). q) pieces in

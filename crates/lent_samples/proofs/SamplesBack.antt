@@ -40,7 +40,7 @@ telemetry-back : (t : EscTelemetry) → Ranged t → telemetry_of (payload_of t)
 unfolding frame_of payload_of bytes_of telemetry_of number_at
 telemetry-back t r = (read-accepted (frame_of t) t (read-written t r)).telemetry
 
-pub sample-long : (u : EscTelemetryUpdate) → length (sample_bytes u) ≡ 22
+sample-long : (u : EscTelemetryUpdate) → length (sample_bytes u) ≡ 22
 unfolding sample_bytes payload_of bytes_of
 sample-long u = refl
 

@@ -13,7 +13,7 @@ use Rattle.sheet.specs.Field.{blank, blanks, right, volts}
 abbrev pub before : ℕ → List ℕ
 before n = pick (n == 0) [] (decimal n)
 
-pub last-digit : (n : ℕ) → n < 2 ^ 64 → decimal n ≡ before (n / 10) ++ (48 + n % 10) ∷ []
+last-digit : (n : ℕ) → n < 2 ^ 64 → decimal n ≡ before (n / 10) ++ (48 + n % 10) ∷ []
 last-digit n h = by (cases_lt n 10)
   where
     by : (n < 10) ⊎ (10 ≤ n) → decimal n ≡ before (n / 10) ++ (48 + n % 10) ∷ []

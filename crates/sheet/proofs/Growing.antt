@@ -10,7 +10,7 @@ use Rattle.sheet.proofs.PiecesLaws.{pieces-same}
 use Rattle.sheet.proofs.Pages.{page-of-40}
 
 -- a page shows its first 40 samples alone
-pub page-front : (number : ℕ) (map : BoardMap) (magnets : ℕ) (samples more : List EscTelemetryUpdate) → 40 ≤ length samples
+page-front : (number : ℕ) (map : BoardMap) (magnets : ℕ) (samples more : List EscTelemetryUpdate) → 40 ≤ length samples
     → page_text number map magnets (samples ++ more) ≡ page_text number map magnets samples
 page-front number map magnets samples more full =
     page-of-40 number map magnets (samples ++ more) ∙ ap (page_text number map magnets) (take-append-le 40 samples more full)

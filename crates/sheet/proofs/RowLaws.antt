@@ -60,12 +60,12 @@ row-of text f =
 -- each column of a row is its text
 module _ (a b c d e f : List ℕ) (fa : Filled 10 a) (fb : Filled 1 b) (fc : Filled 20 c) (fd : Filled 7 d) (fe : Filled 6 e) (ff : Filled 4 f) where
   record Columns : Type 0 where
-    first : column 0 10 (six a b c d e f ++ 10 ∷ []) ≡ a
-    second : column 11 1 (six a b c d e f ++ 10 ∷ []) ≡ b
-    third : column 13 20 (six a b c d e f ++ 10 ∷ []) ≡ c
-    fourth : column 34 7 (six a b c d e f ++ 10 ∷ []) ≡ d
-    fifth : column 42 6 (six a b c d e f ++ 10 ∷ []) ≡ e
-    sixth : column 49 4 (six a b c d e f ++ 10 ∷ []) ≡ f
+    at-0 : column 0 10 (six a b c d e f ++ 10 ∷ []) ≡ a
+    at-11 : column 11 1 (six a b c d e f ++ 10 ∷ []) ≡ b
+    at-13 : column 13 20 (six a b c d e f ++ 10 ∷ []) ≡ c
+    at-34 : column 34 7 (six a b c d e f ++ 10 ∷ []) ≡ d
+    at-42 : column 42 6 (six a b c d e f ++ 10 ∷ []) ≡ e
+    at-49 : column 49 4 (six a b c d e f ++ 10 ∷ []) ≡ f
 
   columns : Columns
   columns =
@@ -87,12 +87,12 @@ module _ (a b c d e f : List ℕ) (fa : Filled 10 a) (fb : Filled 1 b) (fc : Fil
       let l5 : length p5 ≡ 42 = simp length-append (omega (arith, fa.long, fb.long, fc.long, fd.long)) in
       let l6 : length p6 ≡ 49 = simp length-append (omega (arith, fa.long, fb.long, fc.long, fd.long, fe.long)) in
       record {
-        first = between row [] a (gap ++ t2) 0 10 (simp append_assoc) refl fa.long;
-        second = between row p2 b (gap ++ t3) 11 1 (simp append_assoc) l2 fb.long;
-        third = between row p3 c (gap ++ t4) 13 20 (simp append_assoc) l3 fc.long;
-        fourth = between row p4 d (gap ++ t5) 34 7 (simp append_assoc) l4 fd.long;
-        fifth = between row p5 e (gap ++ t6) 42 6 (simp append_assoc) l5 fe.long;
-        sixth = between row p6 f (10 ∷ []) 49 4 (simp append_assoc) l6 ff.long;
+        at-0 = between row [] a (gap ++ t2) 0 10 (simp append_assoc) refl fa.long;
+        at-11 = between row p2 b (gap ++ t3) 11 1 (simp append_assoc) l2 fb.long;
+        at-13 = between row p3 c (gap ++ t4) 13 20 (simp append_assoc) l3 fc.long;
+        at-34 = between row p4 d (gap ++ t5) 34 7 (simp append_assoc) l4 fd.long;
+        at-42 = between row p5 e (gap ++ t6) 42 6 (simp append_assoc) l5 fe.long;
+        at-49 = between row p6 f (10 ∷ []) 49 4 (simp append_assoc) l6 ff.long;
       }
 
   all-filled : Filled 53 (six a b c d e f)
@@ -180,13 +180,13 @@ module _ (map : BoardMap) (byte magnets : ℕ) (u : EscTelemetryUpdate) (good : 
       let c = columns sequence motor time speed voltage temperature sequence-filled (motor-filled (motor_on map u.output)) time-filled speed-filled
       voltage-filled temperature-filled in
       record {
-        sequence = rw (row-is, c.first) (number-spelt 10 u.observation.request_sequence sequence-small);
-        motor = rw (row-is, c.second) (number-spelt 1 (motor_number (motor_on map u.output)) (omega (arith, motor-digit (motor_on map u.output).0)));
-        time = rw (row-is, c.third) (number-spelt 20 u.observation.observed_at_ms r.time);
-        speed = rw (row-is, c.fourth) (number-spelt 7 (turns u.observation.sample.erpm_div100 magnets) (omega (arith, turns-small)));
-        voltage = rw (row-is, c.fifth) (volts-spelt u.observation.sample.voltage_cv r.telemetry.voltage);
-        point = rw (row-is, c.fifth) (volts-point u.observation.sample.voltage_cv r.telemetry.voltage);
-        temperature = rw (row-is, c.sixth) (number-spelt 4 u.observation.sample.temperature_c (omega (arith, temperature-small)));
+        sequence = rw (row-is, c.at-0) (number-spelt 10 u.observation.request_sequence sequence-small);
+        motor = rw (row-is, c.at-11) (number-spelt 1 (motor_number (motor_on map u.output)) (omega (arith, motor-digit (motor_on map u.output).0)));
+        time = rw (row-is, c.at-13) (number-spelt 20 u.observation.observed_at_ms r.time);
+        speed = rw (row-is, c.at-34) (number-spelt 7 (turns u.observation.sample.erpm_div100 magnets) (omega (arith, turns-small)));
+        voltage = rw (row-is, c.at-42) (volts-spelt u.observation.sample.voltage_cv r.telemetry.voltage);
+        point = rw (row-is, c.at-42) (volts-point u.observation.sample.voltage_cv r.telemetry.voltage);
+        temperature = rw (row-is, c.at-49) (number-spelt 4 u.observation.sample.temperature_c (omega (arith, temperature-small)));
       }
 
   sample-row-53 : Row53 (row_text map magnets u)
