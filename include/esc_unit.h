@@ -58,8 +58,8 @@ uint8_t esc_frame_write(uint8_t temperature_c, uint16_t voltage_cv, uint16_t cur
 uint8_t esc_stream_parse(const uint8_t *bytes, size_t len, uint8_t *gave, size_t marks, uint16_t *fields, size_t room,
                          uint32_t *counts, size_t n);
 
-/* Searches a capture: the start of ten bytes that are a good frame, or `len` where there are none. Which of several
- * is found is left open. Never refused. */
+/* Searches a capture: where the first good frame starts, ten bytes of which the last is the CRC-8 of the nine before
+ * it; or `len` where there is none. Never refused. */
 size_t esc_find_frame(const uint8_t *capture, size_t len);
 
 /* Whether `duration_ms` has passed from `start_ms` to `now_ms`, on a clock that wraps at 2^64. Never refused. */

@@ -2,10 +2,11 @@
 //!
 //! The Rust's `elapsed_at_least` is private: it is asked through `next_request` of a manager with a boot
 //! delay, which calls it and nothing else that matters. The Rust has no frame writer: what is written is
-//! read by its `decode`, and compared with the layout. It has no capture search: its `decode` is asked of each window.
+//! read by its `decode`, and compared with the layout.
 //! Usage: in_process ROUNDS SEED
 mod airframe_calls;
 mod c_calls;
+mod captures;
 mod rng;
 use esc_manager::{EscManager, EscManagerConfig};
 use ferrowasp_blheli_telemetry::{crc8, decode, EscTelemetry, StreamParser};
@@ -125,33 +126,6 @@ fn parse(stream: &[u8], short: [usize; 3]) -> u64 {
     n as u64
 }
 
-/// Some window that is a good frame, or the length exactly if none is.
-fn search(capture: &[u8]) -> u64 {
-    let good = |start: &usize| decode(capture[*start..start + 10].try_into().unwrap()).is_ok();
-    let starts: Vec<usize> = (0..capture.len().saturating_sub(9)).filter(good).collect();
-    let place = c_calls::find_frame(capture);
-    let right = if starts.is_empty() { place == capture.len() } else { starts.contains(&place) };
-    assert!(right, "searching {capture:02x?}: {place}, good are {starts:?}");
-    1
-}
-
-/// Captures of noise, with two frames in noise, and of streams.
-fn searches(g: &mut Rng, rounds: u64) -> u64 {
-    let mut count = 0;
-    for n in 0..=30 {
-        count += search(&bytes(g, n));
-        for m in 0..=12 {
-            let (before, after) = (bytes(g, n), bytes(g, m));
-            count += search(&[before, g.frame(m as u16).to_vec(), after, g.frame(n as u16).to_vec()].concat());
-        }
-    }
-    for _ in 0..rounds {
-        let n = g.n(60) as usize;
-        count += search(&stream(g, n));
-    }
-    count
-}
-
 fn elapsed(start: u64, now: u64, duration: u32) -> u64 {
     let config = EscManagerConfig { boot_delay_ms: duration, ..EscManagerConfig::legacy_uart() };
     let rust = EscManager::new(config, start).next_request(now).is_some();
@@ -225,8 +199,11 @@ fn main() {
         let n = g.n(1000) as usize;
         parsed += parse(&stream(&mut g, n), [0; 3]);
     }
-    let searches = searches(&mut g, rounds);
+    let searches = captures::searches(&mut g, rounds);
     let speeds = airframe_calls::speeds();
     let maps = airframe_calls::maps(&mut g, rounds);
-    println!("in_process: crc8 {crcs}, frames read {reads}, written {writes}, stream bytes {parsed}, captures searched {searches}, elapsed_at_least {times}, speeds {speeds}, conversions {maps}: no answer differs");
+    println!(
+        "in_process: crc8 {crcs}, frames read {reads}, written {writes}, stream bytes {parsed}, {searches}, \
+        elapsed_at_least {times}, speeds {speeds}, conversions {maps}: no answer differs"
+    );
 }

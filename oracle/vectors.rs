@@ -1,5 +1,5 @@
 //! What crates/vectors must print: each line from the two Rust files, run on the same input, and where they have
-//! nothing of it (frame writer, refusals, capture search, board map, speed) from document 01.
+//! nothing of it (frame writer, refusals, capture search, board map, speed) from documents 01 and 02.
 //! A section of crates/vectors/src is a function here.
 mod layout;
 mod unit;
@@ -93,9 +93,9 @@ fn streams() {
     counts("reset", &parser);
 }
 
-/// No capture has two good windows, so there is one answer.
+/// The first window that the Rust's `decode` takes (document 02, Q-3).
 fn captures() {
-    let vectors: [(&str, Vec<u8>); 7] = [
+    let vectors: [(&str, Vec<u8>); 11] = [
         ("nothing", vec![]),
         ("nine bytes", CRUISE[..9].to_vec()),
         ("whole", CRUISE.to_vec()),
@@ -103,14 +103,16 @@ fn captures() {
         ("noise before", [b"\xff\x00\x5a", CRUISE].concat()),
         ("noise after", [CRUISE, b"\xde\xad\xbe\xef"].concat()),
         ("noise about", [b"\xde\xad\xbe\xef", COUNTING, b"\x13\x37"].concat()),
+        ("twenty zeros", vec![0; 20]),
+        ("one stray byte", [b"\xff", COUNTING].concat()),
+        ("two that overlap", [b"\xff", COUNTING, b"\x68"].concat()),
+        ("two apart", [b"\xff\x00\x5a", CRUISE, b"\xff", COUNTING].concat()),
     ];
     for (name, capture) in vectors {
         let good = |w: &[u8]| decode(w.try_into().unwrap()).is_ok();
-        let found: Vec<usize> = capture.windows(10).enumerate().filter(|(_, w)| good(w)).map(|(i, _)| i).collect();
-        match found[..] {
-            [] => println!("capture {name}: none"),
-            [start] => println!("capture {name}: {start}"),
-            _ => panic!("{name} has several good windows"),
+        match capture.windows(10).position(good) {
+            None => println!("capture {name}: none"),
+            Some(start) => println!("capture {name}: {start}"),
         }
     }
 }

@@ -3,10 +3,9 @@
 
 Every public function has a comment that says what it is for. In a library it asks nothing by a `requires`, and
 states its result by an equation, `result ≡ ..` or of what `result` stands for, and what each lent buffer holds afterwards by
-another, `buffer.new ≡ ..`; only the capture search's choice is free. A crate that is a part of others is theirs alone: no
-further crate's code names it, and printing a line asks for room, which each call of it proves. Every file of specs/ and proofs/ opens
-with a comment that says what it is or why it is true, and has no line of more than 160 characters. What specs/ define, they define
-once: one word, one meaning.
+another, `buffer.new ≡ ..`. A crate that is a part of others is theirs alone: no further crate's code names it, and printing a
+line asks for room, which each call of it proves. Every file of specs/ and proofs/ opens with a comment that says what it is or why
+it is true, and has no line of more than 160 characters. What specs/ define, they define once: one word, one meaning.
 """
 import re
 import sys
@@ -18,8 +17,6 @@ FUNCTION = re.compile(r'^ *pub (?:const |unsafe |extern "C" )*fn (\w+)', re.M)
 BRACE = re.compile(r"(?:^\s*(requires|ensures)\b[*]?\s*\w*\s*)?\{", re.M)
 DEFINED = re.compile(r"^(?:unfoldable |abbrev )?pub (?:record |data )?(?!use |mod )([^\s:({]+)", re.M)
 WIDEST = 160
-# what a definition of specs/ says of the result where no equation could
-FREE = {"find_frame": "Searched", "esc_find_frame": "Searched"}
 # crates that are a part of others
 PARTS = {"hex_lines": ["answer_lines", "record_lines", "unit_text"], "record_lines": ["unit_text"]}
 # what of them has a `requires`
@@ -74,10 +71,9 @@ def balanced(text):
     return depth == 0
 
 
-def states(name, fact):
-    """Whether a fact says what the result is: by an equation on it, or by the word for a choice that is free."""
-    of_result = re.match(r"([^≡]*(?<![\w.])result(?![\w'])[^≡]*)(≡?)", fact)
-    return bool(of_result) and (of_result[2] == "≡" or fact.startswith(FREE.get(name, "\0") + " "))
+def states(fact):
+    """Whether a fact says what the result is, by an equation on it."""
+    return re.match(r"[^≡]*(?<![\w.])result(?![\w'])[^≡]*≡", fact)
 
 
 def demands(path):
@@ -89,7 +85,7 @@ def demands(path):
 def contracts(path):
     for name, signature, clauses, _ in functions(path):
         ensured = [fact for kind, clause in clauses if kind == "ensures" for fact in facts(clause)]
-        if "->" in signature and not any(states(name, fact) for fact in ensured):
+        if "->" in signature and not any(map(states, ensured)):
             yield f"{path}: pub fn {name} does not state its result by an equation"
         for lent in re.findall(r"(\w+): &(?:'\w+ )?mut |&(?:'\w+ )?mut (self)", signature):
             buffer = lent[0] or lent[1]

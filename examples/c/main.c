@@ -103,8 +103,10 @@ static void capture(const char *name, const uint8_t *bytes, size_t len)
 static void captures(void)
 {
     static const uint8_t before[] = {0xff, 0, 0x5a, 0x19, 0x06, 0x90, 0x04, 0xd2, 0x02, 0x37, 0x04, 0xd2, 0xbc};
+    static const uint8_t overlapping[] = {0xff, 1, 2, 3, 4, 5, 6, 7, 8, 9, 0x85, 0x68};
     capture("noise before", before, sizeof before);
     capture("nine bytes", cruise, 9);
+    capture("two that overlap", overlapping, sizeof overlapping);
 }
 
 static void due(uint64_t start, uint64_t now, uint32_t duration)

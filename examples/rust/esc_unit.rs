@@ -91,7 +91,7 @@ pub fn telemetry([temperature, voltage_cv, current_ca, consumption_mah, erpm_div
     Telemetry { temperature_c: temperature as u8, voltage_cv, current_ca, consumption_mah, erpm_div100 }
 }
 
-/// The start of a good frame.
+/// Where the first good frame starts.
 pub fn find_frame(capture: &[u8]) -> Option<usize> {
     let place = unsafe { raw::esc_find_frame(capture.as_ptr(), capture.len()) };
     (place != capture.len()).then_some(place)

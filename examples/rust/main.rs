@@ -48,6 +48,13 @@ fn capture(out: &mut impl Write, name: &str, bytes: &[u8]) -> io::Result<()> {
     writeln!(out, "capture {name}: {found}")
 }
 
+/// What README.md shows.
+fn shown() -> Result<(), Refused> {
+    assert_eq!(motor_of_lane(&[3, 1, 4, 2], 0)?, 3);
+    assert_eq!(find_frame(b"\xff\x01\x02\x03\x04\x05\x06\x07\x08\x09\x85"), Some(1));
+    Ok(())
+}
+
 fn due(out: &mut impl Write, start: u64, now: u64, duration: u32) -> io::Result<()> {
     let told = if elapsed_at_least(start, now, duration) { "yes" } else { "no" };
     writeln!(out, "Due({start}, {now}, {duration}): {told}")
@@ -83,6 +90,7 @@ fn first_rows(out: &mut impl Write, samples: &[[u8; SAMPLE_BYTES]], magnets: u8)
 
 fn main() -> io::Result<()> {
     let out = &mut io::stdout().lock();
+    assert!(shown().is_ok());
     answers(out)?;
     writeln!(out, "crc8 digits: {:02x}", crc8(b"123456789"))?;
     frame(out, "cruise", &CRUISE)?;
@@ -91,6 +99,7 @@ fn main() -> io::Result<()> {
     stream(out, "noise between", &[&CRUISE, &b"\x13\x37"[..], &COUNTING].concat())?;
     capture(out, "noise before", &[b"\xff\x00\x5a", &CRUISE[..]].concat())?;
     capture(out, "nine bytes", &CRUISE[..9])?;
+    capture(out, "two that overlap", &[b"\xff", &COUNTING[..], b"\x68"].concat())?;
     due(out, 0, 20, 20)?;
     due(out, 0, 19, 20)?;
     due(out, 5, 4, 1)?;

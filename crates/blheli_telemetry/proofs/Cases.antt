@@ -24,7 +24,7 @@ turning erpm =
     }
 
 -- a frame in which no two bytes are equal, and its fields
-abbrev ten_bytes : List ℕ
+abbrev pub ten_bytes : List ℕ
 ten_bytes = 0x01 ∷ 0x02 ∷ 0x03 ∷ 0x04 ∷ 0x05 ∷ 0x06 ∷ 0x07 ∷ 0x08 ∷ 0x09 ∷ 0x85 ∷ []
 
 abbrev five_fields : EscTelemetry

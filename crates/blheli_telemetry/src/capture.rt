@@ -1,12 +1,13 @@
 // Finding a frame in a capture of the wire.
 ghost use Rattle.std.specs.Prelude.{◌≡◌};
-ghost use Rattle.blheli_telemetry.specs.Capture.{good, Searched};
+ghost use Rattle.blheli_telemetry.specs.Capture.{good, first_frame};
 
 use crate::frame::{FRAME_LEN, decode};
 
-// Where a good frame starts in a capture, for a reader that has no stream to parse.
+// Where the first good frame starts in a capture, for a reader that has no stream to parse.
+#[tactic(auto, using(crate::proofs::CaptureLaws::first_good))]
 pub fn find_frame(capture: &[u8]) -> Option<usize>
-    ensures { Searched capture.now result }
+    ensures { result ≡ first_frame capture.now }
 {
     for (start, window) in capture.windows(FRAME_LEN).enumerate() {
         if is_good(window) {

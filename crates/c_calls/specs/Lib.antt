@@ -1,8 +1,7 @@
 -- Read in this order: what is lent for a result; a frame's fields, then the parser over a stream, which stores the same fields;
--- the capture search; the board map; the sheet.
+-- the board map; the sheet.
 pub mod Lent
 pub mod Frame
 pub mod Stream
-pub mod Capture
 pub mod BoardMap
 pub mod Sheet

@@ -1,14 +1,13 @@
 // Finding a frame in a capture of the wire.
-ghost use Rattle.blheli_telemetry.specs.Capture.{Searched};
-ghost use Rattle.c_calls.specs.Capture.{placed};
+ghost use Rattle.std.specs.Prelude.{◌≡◌, length, unwrap_or};
+ghost use Rattle.blheli_telemetry.specs.Capture.{first_frame};
 
 use blheli_telemetry::find_frame;
 
-// The start of ten bytes that are a good frame; the capture's length where there are none.
-#[tactic(auto, using(crate::proofs::PlaceLaws::searched_place))]
+// Where the first good frame starts; the capture's length, which is no start, where there is none.
 #[unsafe(no_mangle)]
 pub extern "C" fn esc_find_frame(capture: &[u8]) -> usize
-    ensures { Searched capture.now (placed capture.now result) }
+    ensures { result ≡ unwrap_or (first_frame capture.now) (length capture.now) }
 {
     find_frame(capture).unwrap_or(capture.len())
 }

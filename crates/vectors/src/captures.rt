@@ -1,5 +1,4 @@
-// The capture search. Document 01 leaves open which good frame is found, so each capture here has one or
-// none.
+// The capture search: captures with no good frame, with one and with several.
 use blheli_telemetry::find_frame;
 use std::io;
 
@@ -27,6 +26,22 @@ pub fn run(rt: &impl Print) -> io::Result<()> {
         rt,
         "noise about",
         b"\xde\xad\xbe\xef\x01\x02\x03\x04\x05\x06\x07\x08\x09\x85\x13\x37",
+    )?;
+    vector(rt, "twenty zeros", &[0; 20])?;
+    vector(
+        rt,
+        "one stray byte",
+        b"\xff\x01\x02\x03\x04\x05\x06\x07\x08\x09\x85",
+    )?;
+    vector(
+        rt,
+        "two that overlap",
+        b"\xff\x01\x02\x03\x04\x05\x06\x07\x08\x09\x85\x68",
+    )?;
+    vector(
+        rt,
+        "two apart",
+        b"\xff\x00\x5a\x19\x06\x90\x04\xd2\x02\x37\x04\xd2\xbc\xff\x01\x02\x03\x04\x05\x06\x07\x08\x09\x85",
     )
 }
 

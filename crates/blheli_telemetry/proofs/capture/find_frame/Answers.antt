@@ -1,7 +1,7 @@
 -- The windows end where every later one is too short.
-use Rattle.std.proofs.Common.{◌+◌, ◌<◌, length, length-drop, ap, arith}
+use Rattle.std.proofs.Common.{◌+◌, ◌<◌, None, length, length-drop, ap, arith}
 use Rattle.base.proofs.ByCases.{below_or_not}
-use Rattle.blheli_telemetry.proofs.CaptureLaws.{short-window}
+use Rattle.blheli_telemetry.proofs.CaptureLaws.{short-window, is-first}
 use Rattle.blheli_telemetry.proofs.capture.find_frame.Goals as goal
 
 pub returns : goal.returns
@@ -19,6 +19,7 @@ returns c = let l = c.loop-start in
       ap length l.invariant.rest,
       length-drop l.start-iterator.count c.args.capture.now,
     ) in
-    λ start e. below_or_not start l.start-iterator.count
+    is-first c.args.capture.now None
+    (λ start e. below_or_not start l.start-iterator.count
     (λ before. l.invariant.none_before start before e)
-    (λ behind. short-window c.args.capture.now start (omega (arith, end)) e)
+    (λ behind. short-window c.args.capture.now start (omega (arith, end)) e))
