@@ -33,11 +33,9 @@ impl Searches {
             _ => "apart",
         };
         self.reach(kind);
-        let found = !starts.is_empty() && capture.len() > 10;
-        for (place, here) in PLACES.iter().zip([wanted == 0, wanted + 10 == capture.len(), wanted > 255, wanted > 65535]) {
-            if found && here {
-                self.reach(place);
-            }
+        if let Some(&first) = starts.first().filter(|_| capture.len() > 10) {
+            let here = [first == 0, first + 10 == capture.len(), first > 255, first > 65535];
+            PLACES.iter().zip(here).filter(|(_, here)| *here).for_each(|(place, _)| self.reach(place));
         }
     }
     fn reach(&mut self, situation: &str) {
