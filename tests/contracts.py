@@ -3,7 +3,8 @@
 
 Every public function has a comment that says what it is for. In a library it asks nothing by a `requires`, and
 states its result by an equation, `result ≡ ..` or of what `result` stands for, and what each lent buffer holds afterwards by
-another, `buffer.new ≡ ..`. A crate that is a part of others is theirs alone: no further crate's code names it, and printing a
+another, `buffer.new ≡ ..`. A conversion to another type, by `From` or `TryFrom`, has a comment too, and its equation in the ghost line of
+its trait, which asks for none. A crate that is a part of others is theirs alone: no further crate's code names it, and printing a
 line asks for room, which each call of it proves. Every file of specs/ and proofs/ opens with a comment that says what it is or why
 it is true, and has no line of more than 160 characters. What specs/ define, they define once: one word, one meaning.
 """
@@ -13,6 +14,7 @@ from pathlib import Path
 
 CRATES = Path(__file__).resolve().parent.parent / "crates"
 FUNCTION = re.compile(r'^ *pub (?:const |unsafe |extern "C" )*fn (\w+)', re.M)
+CONVERSION = re.compile(r"^impl(?:<[^{]*?>)? (Try)?From<(.+)> for (.+) \{", re.M)
 # where a clause begins, or else the body; no type of a parameter has a brace
 BRACE = re.compile(r"(?:^\s*(requires|ensures)\b[*]?\s*\w*\s*)?\{", re.M)
 DEFINED = re.compile(r"^(?:unfoldable |abbrev )?pub (?:record |data )?(?!use |mod )([^\s:({]+)", re.M)
@@ -32,18 +34,23 @@ def closed(text, at):
     return at
 
 
+def commented(text, at):
+    """Whether a comment stands above what begins at this place."""
+    above = [line.strip() for line in text[:at].split("\n")[:-1] if not line.strip().startswith("#[")]
+    return bool(above) and above[-1].startswith("//")
+
+
 def functions(path):
     """Each public function: its name, its parameters and result, its clauses, and whether a comment stands above it."""
     text = path.read_text()
     for found in FUNCTION.finditer(text):
-        above = [line.strip() for line in text[: found.start()].split("\n")[:-1] if not line.strip().startswith("#[")]
         start = BRACE.search(text, found.end())
         signature, clauses = text[found.end() : start.start()], []
         while start[1]:
             end = closed(text, start.end())
             clauses.append((start[1], text[start.end() : end - 1]))
             start = BRACE.search(text, end)
-        yield found[1], signature, clauses, bool(above) and above[-1].startswith("//")
+        yield found[1], signature, clauses, commented(text, found.start())
 
 
 def facts(clause):
@@ -93,9 +100,21 @@ def contracts(path):
                 yield f"{path}: pub fn {name} does not state by an equation what {buffer} holds afterwards"
 
 
+def conversions(path):
+    """Conversions without their comment or their equation."""
+    text = path.read_text()
+    for found in CONVERSION.finditer(text):
+        law = f"{'try_' if found[1] else ''}from_gives"
+        body = text[found.end() : closed(text, found.end())]
+        if not commented(text, found.start()):
+            yield f"{path}: {found[0][:-2]} has no comment"
+        if not re.search(rf"ghost {law} = \{{ λ \w+ (\w+)\. [^≡}}]*\b\1\b[^≡}}]*≡ ", body):
+            yield f"{path}: {found[0][:-2]} does not state its result by an equation, `{law}`"
+
+
 def purposes(path):
-    for name, *_, commented in functions(path):
-        if not commented:
+    for name, *_, told in functions(path):
+        if not told:
             yield f"{path}: pub fn {name} has no comment"
 
 
@@ -128,7 +147,7 @@ def meanings(paths):
 
 def main():
     libraries = [crate for crate in CRATES.iterdir() if crate.name not in PARTS and not (crate / "src/main.rt").exists()]
-    faults = [fault for crate in libraries for path in crate.glob("src/**/*.rt") for fault in contracts(path)]
+    faults = [fault for crate in libraries for path in crate.glob("src/**/*.rt") for fault in [*contracts(path), *conversions(path)]]
     faults += [fault for crate in [*libraries, *(CRATES / part for part in PARTS)] for path in crate.glob("src/**/*.rt") for fault in demands(path)]
     faults += [fault for path in CRATES.glob("*/src/**/*.rt") for fault in [*purposes(path), *strangers(path)]]
     faults += [fault for part in ("specs", "proofs") for path in CRATES.glob(f"*/{part}/**/*.antt") for fault in layout(path)]

@@ -9,8 +9,16 @@ pub(crate) fn each_once(bytes: &[u8]) -> bool
     [1, 2, 3, 4].iter().all(|&motor| times(bytes, motor) == 1)
 }
 
+// A plain loop, since the compiler unrolls it over four bytes, and does not unroll a filter that is counted: with that the calls
+// for C took twice the time.
 fn times(bytes: &[u8], byte: u8) -> usize
     ensures { result ≡ times byte bytes.now }
 {
-    bytes.iter().filter(|&&b| b == byte).count()
+    let mut found = 0;
+    for &b in bytes {
+        if b == byte {
+            found += 1;
+        }
+    }
+    found
 }

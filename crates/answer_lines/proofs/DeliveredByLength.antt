@@ -1,5 +1,5 @@
 -- Each answer has a form, by computation over its bytes: those of a delivery, 25, 28 and 29 long, are a delivery's alone.
-use Rattle.std.proofs.Common.{◌≡◌, ℕ, Bool, true, false, leb, Option, Some, None, List, [], ◌∷◌, ◌++◌, length, refl, arith}
+use Rattle.std.proofs.Common.{◌≡◌, Bool, true, false, leb, Option, Some, None, [], ◌∷◌, ◌++◌, refl}
 use Rattle.base.specs.BigEndian.{bytes_of}
 use Rattle.blheli_telemetry.specs.Frame.{payload_of}
 use Rattle.esc_lanes.specs.Output.{lane_number}
@@ -41,21 +41,6 @@ flag-most : (b : Bool) → leb (flag_byte b) 1 ≡ true
 flag-most true = refl
 flag-most false = refl
 
-record Four (counts : List ℕ) : Type 0 where
-  a : ℕ
-  b : ℕ
-  c : ℕ
-  d : ℕ
-  is : counts ≡ a ∷ b ∷ c ∷ d ∷ []
-
-four : (counts : List ℕ) → length counts ≡ 4 → Four counts
-four [] e = absurd (omega arith)
-four (a ∷ []) e = absurd (omega arith)
-four (a ∷ b ∷ []) e = absurd (omega arith)
-four (a ∷ b ∷ c ∷ []) e = absurd (omega arith)
-four (a ∷ b ∷ c ∷ d ∷ []) e = record { a = a; b = b; c = c; d = d; is = refl }
-four (a ∷ b ∷ c ∷ d ∷ f ∷ counts) e = absurd (omega arith)
-
 module _ (u : EscTelemetryUpdate) where
   -- a delivered sample and an idle status
   delivery : (s : Option EscIdleQualificationStatus) → FourCounts s
@@ -69,8 +54,7 @@ module _ (u : EscTelemetryUpdate) where
   delivery (Some (idle.Failed (failure.Overspeed o erpm))) k =
       record { by-length = refl; behind = refl; tells = rw (lane-least u.output.0, lane-most u.output.0, lane-least o.0, lane-most o.0) }
   delivery (Some (idle.Failed (failure.Timeout counts))) k =
-      let l = four counts k in
-      record { by-length = rw l.is; behind = refl; tells = rw (l.is, lane-least u.output.0, lane-most u.output.0) }
+      record { by-length = refl; behind = refl; tells = rw (lane-least u.output.0, lane-most u.output.0) }
 
   stored : DeliveredByLength (0x00 ∷ 0x01 ∷ sample_bytes u) None
   unfolding sample_bytes payload_of bytes_of told_by has_form fits_one
@@ -84,7 +68,7 @@ status (Some idle.Pending) k = record { by-length = refl; behind = tt; tells = r
 status (Some idle.Qualified) k = record { by-length = refl; behind = tt; tells = refl }
 status (Some (idle.Failed failure.InvalidConfig)) k = record { by-length = refl; behind = tt; tells = refl }
 status (Some (idle.Failed (failure.Overspeed o erpm))) k = record { by-length = refl; behind = tt; tells = rw (lane-least o.0, lane-most o.0) }
-status (Some (idle.Failed (failure.Timeout counts))) k = let l = four counts k in record { by-length = rw l.is; behind = tt; tells = rw l.is }
+status (Some (idle.Failed (failure.Timeout counts))) k = record { by-length = refl; behind = tt; tells = refl }
 
 -- a request, asked for or timed out
 asked : (q : EscActuatorRequest) → DeliveredByLength (0x00 ∷ 0x01 ∷ request_bytes q) None

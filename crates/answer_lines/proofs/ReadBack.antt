@@ -3,7 +3,7 @@ use Rattle.std.proofs.Common.{◌≡◌, ℕ, zero, suc, ◌<◌, ◌≤◌, ◌
 use Rattle.std.proofs.Common.{length, get_or, drop, refl, arith, length-drop}
 use Rattle.std.proofs.Common.{sym, length-take, get_or-take, get_or-drop, drop-drop, take-append-drop}
 use Rattle.std.proofs.lemmas.Bool.{cases_lt}
-use Rattle.std.proofs.lemmas.List.{take_all, get_or_past}
+use Rattle.std.proofs.lemmas.List.{get_or_past}
 use mathlib.Core.Logic.{◌⊎◌, inl, inr}
 use Rattle.base.specs.BigEndian.{number_at}
 use Rattle.esc_lanes.specs.Output.{output_at}
@@ -12,6 +12,7 @@ use Rattle.esc_lanes.specs.declared.request.EscTelemetryUpdate.{EscTelemetryUpda
 use Rattle.esc_idle.specs.declared.idle_verdict.EscIdleQualificationFailure.TheVariants as failure
 use Rattle.esc_idle.specs.declared.idle_verdict.EscIdleQualificationStatus.{EscIdleQualificationStatus}
 use Rattle.esc_idle.specs.declared.idle_verdict.EscIdleQualificationStatus.TheVariants as idle
+use Rattle.esc_answers.proofs.AnswerLaws.{four_counts}
 use Rattle.esc_answers.specs.Answer.{request_bytes, sample_bytes, failure_bytes, idle_bytes}
 use Rattle.lent_samples.specs.Samples.{lent_sample}
 use Rattle.lent_samples.proofs.SamplesBack.{lane-back, sample-spelt}
@@ -48,7 +49,7 @@ module _ (s : List ℕ) where
         record {
           status = Some (idle.Failed (failure.Timeout (drop (at + 1) s)));
           counts = long;
-          bytes = byte-behind s at 5 (omega arith) e (take_all 4 (drop (at + 1) s) (omega arith));
+          bytes = byte-behind s at 5 (omega arith) e (four_counts (drop (at + 1) s) long);
         }
 
   -- the sample behind 00 02, or behind 00 01

@@ -1,9 +1,14 @@
 -- Numbers highest byte first: their bytes, and writing these over a buffer one after the other.
 use Rattle.std.proofs.Common.{◌≡◌, ℕ, zero, suc, ◌+◌, ◌*◌, ◌/◌, ◌%◌, ◌^◌, ◌<◌, ◌≤◌, List, [], ◌∷◌, ◌++◌, length, get_or, take, drop, set, refl, ◌∙◌}
-use Rattle.std.proofs.Common.{append_assoc, add_assoc, add-suc, add-one, arith, length-append, length-drop, length-take}
+use Rattle.std.proofs.Common.{append_assoc, add-zero, zero-add, add_assoc, add-suc, add-one, arith, length-append, length-drop, length-take}
 use Rattle.std.proofs.Common.{get_or-drop, take-suc, drop-drop, take_at}
 use lib.Seq.{drop-append-add, set_split}
 use Rattle.base.specs.BigEndian.{number_at, bytes_of, overwrite}
+
+-- one byte spells itself
+pub number-one : (s : List ℕ) (at : ℕ) → number_at 1 s at ≡ get_or s at 0
+unfolding number_at
+number-one s at = simp (add-zero, zero-add)
 
 -- what k bytes spell is spelt by those bytes again, at every width
 pub bytes-number : (k : ℕ) (s : List ℕ) (at : ℕ) → ((i : ℕ) → get_or s i 0 < 256) → at + k ≤ length s → bytes_of k (number_at k s at) ≡ take k (drop at s)
@@ -21,6 +26,17 @@ pub number_fits : (k : ℕ) (s : List ℕ) (at : ℕ) → ((i : ℕ) → get_or 
 unfolding number_at
 number_fits zero s at byte = omega arith
 number_fits (suc k) s at byte = omega (arith, number_fits k s at byte, byte (at + k))
+
+-- a number is as many bytes long as is asked
+pub bytes-length : (k v : ℕ) → length (bytes_of k v) ≡ k
+unfolding bytes_of
+bytes-length zero v = refl
+bytes-length (suc k) v = rw (length-append, bytes-length k (v / 256)) (omega arith)
+
+-- bytes written within a buffer leave it as long as it was
+pub overwrite-length : (at : ℕ) (b s : List ℕ) → at + length b ≤ length s → length (overwrite at b s) ≡ length s
+unfolding overwrite
+overwrite-length at b s h = simp (length-append, length-take, length-drop) (omega arith)
 
 -- the bytes written from the first place on stand in front
 pub overwrite-front : (b s : List ℕ) (n : ℕ) → length b ≡ n → take n (overwrite 0 b s) ≡ b

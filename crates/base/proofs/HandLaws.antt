@@ -1,12 +1,12 @@
--- Bytes handed over in a lent output, where they fit and where they do not.
-use Rattle.std.proofs.Common.{◌≡◌, ℕ, ◌<◌, ◌≤◌, List, length, take, sym, ap, ◌∙◌, arith}
+-- Bytes handed over in a lent output, where they fit and where they do not; and copied to a place of it.
+use Rattle.std.proofs.Common.{◌≡◌, ℕ, ◌+◌, ◌<◌, ◌≤◌, List, length, take, sym, ap, ◌∙◌, arith}
 use Rattle.std.proofs.Common.{le-leb}
 use borrow.Author.Tests.{lt-leb}
 use Rattle.base.specs.Reply.{accepted, refused}
 use Rattle.base.specs.BigEndian.{overwrite}
 use Rattle.base.proofs.ByCases.{below_or_not}
 use Rattle.base.proofs.BigEndianLaws.{overwrite-front}
-use Rattle.base.specs.Handed.{handed_reply, handed_output}
+use Rattle.base.specs.Handed.{handed_reply, handed_output, copied}
 
 module _ (text out : List ℕ) where
   pub fits-reply : length text ≤ length out → handed_reply text (length out) ≡ accepted (length text)
@@ -44,3 +44,21 @@ module _ (text out : List ℕ) where
   -- the text stands in front of the output
   pub told_text : (out' : List ℕ) (n : ℕ) → accepted n ≡ handed_reply text (length out) → out' ≡ handed_output text out → take n out' ≡ text
   told_text out' n e o = ap (take n) (o ∙ fits-output (told-fits n e)) ∙ overwrite-front text out n (sym (told-length n e))
+
+  pub told-space : {n : ℕ} → refused n ≡ handed_reply text (length out) → out ≡ handed_output text out
+  told-space {n} e =
+      below_or_not (length out) (length text)
+      (λ h. sym (short-output h))
+      (λ h.
+      let q : refused n ≡ accepted (length text) = e ∙ fits-reply h in
+      let z : ◌≡◌ {A = ℕ} 0 1 = cc in
+      absurd (omega arith))
+
+module _ (at : ℕ) (text out : List ℕ) where
+  pub copied-fits : at + length text ≤ length out → copied at text out ≡ overwrite at text out
+  unfolding copied
+  copied-fits h = rw (le-leb (at + length text) (length out) h)
+
+  pub copied-short : length out < at + length text → copied at text out ≡ out
+  unfolding copied
+  copied-short h = rw (lt-leb (at + length text) (length out) h)

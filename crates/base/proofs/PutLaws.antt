@@ -15,3 +15,7 @@ put_then {at} {m} {n} {a} {b} {s} room first rest =
 pub overwrite-none : (at : ℕ) (s : List ℕ) → overwrite at [] s ≡ s
 unfolding overwrite
 overwrite-none at s = rw (add-zero at) (take-append-drop at s)
+
+-- nothing put
+pub put-none : (at : ℕ) (s : List ℕ) → Put at [] s s at
+put-none at s = record { contents = sym (overwrite-none at s); place = omega arith }

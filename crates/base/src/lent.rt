@@ -1,6 +1,6 @@
 // Bytes handed over in a lent output: all of them, or none where they do not fit.
-ghost use Rattle.std.specs.Prelude.{◌≡◌, length};
-ghost use Rattle.base.specs.Handed.{handed_reply, handed_output};
+ghost use Rattle.std.specs.Prelude.{◌≡◌, length, take};
+ghost use Rattle.base.specs.Handed.{handed_reply, handed_output, copied};
 ghost use Rattle.base.specs.Reply.{replied};
 
 use crate::refusal::Refusal;
@@ -17,4 +17,16 @@ pub fn hand(text: &[u8], out: &mut [u8]) -> Result<usize, Refusal>
     }
     out[..n].copy_from_slice(text);
     Ok(n)
+}
+
+// Copies the first `n` bytes of a text from the place `at` on; where they do not fit, the output stays as it is.
+#[tactic(auto, unfolding(crate::specs::Handed::copied, crate::specs::BigEndian::overwrite))]
+pub fn copy(text: &[u8], n: usize, out: &mut [u8], at: usize)
+    ensures { out.new ≡ copied at (take n text.now) out.old }
+{
+    let text = &text[..n.min(text.len())];
+    if out.len() < at || out.len() - at < text.len() {
+        return;
+    }
+    out[at..at + text.len()].copy_from_slice(text);
 }

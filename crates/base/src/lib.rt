@@ -7,7 +7,7 @@ mod refusal;
 mod saturating;
 mod time;
 
-pub use lent::hand;
+pub use lent::{copy, hand};
 pub use refusal::Refusal;
 pub use saturating::saturating_inc;
 pub use time::elapsed_at_least;

@@ -1,5 +1,5 @@
 -- How long answers are: each part by computation, and none longer than the report.
-use Rattle.std.proofs.Common.{◌≡◌, ◌≤◌, Bool, true, false, Option, Some, None, [], ◌∷◌, length, refl, arith, length-append, length-take}
+use Rattle.std.proofs.Common.{◌≡◌, ◌+◌, ◌≤◌, Bool, true, false, Option, Some, None, [], ◌∷◌, length, refl, arith, length-append, get_or, ℕ, List}
 use Rattle.base.specs.BigEndian.{bytes_of}
 use Rattle.blheli_telemetry.specs.Frame.{payload_of}
 use Rattle.esc_lanes.specs.declared.request.EscActuatorRequest.{EscActuatorRequest}
@@ -35,40 +35,53 @@ use Rattle.esc_answers.specs.declared.answer.UnitReport.{UnitReport}
 use Rattle.esc_answers.specs.declared.answer.Answer.{Answer}
 use Rattle.esc_answers.specs.declared.answer.Answer.TheVariants as answer
 
-request-length : (q : EscActuatorRequest) → length (request_bytes q) ≡ 5
+pub request-length : (q : EscActuatorRequest) → length (request_bytes q) ≡ 5
 unfolding request_bytes bytes_of
 request-length q = refl
 
-sample-length : (u : EscTelemetryUpdate) → length (sample_bytes u) ≡ 22
+pub sample-length : (u : EscTelemetryUpdate) → length (sample_bytes u) ≡ 22
 unfolding sample_bytes payload_of bytes_of
 sample-length u = refl
 
-report-length : (r : UnitReport) → length (report_bytes r) ≡ 42
+pub report-length : (r : UnitReport) → length (report_bytes r) ≡ 42
 unfolding report_bytes bytes_of
 report-length r = refl
 
-figure-length : (f : Figure) → length (figure_bytes f) ≡ 7
+pub figure-length : (f : Figure) → length (figure_bytes f) ≡ 7
 unfolding figure_bytes bytes_of
 figure-length f = refl
+
+-- four counts are their entries
+pub four_counts : (counts : List ℕ) → length counts ≡ 4
+    → get_or counts 0 0 ∷ get_or counts 1 0 ∷ get_or counts 2 0 ∷ get_or counts 3 0 ∷ [] ≡ counts
+four_counts [] e = absurd (omega arith)
+four_counts (a ∷ []) e = absurd (omega arith)
+four_counts (a ∷ b ∷ []) e = absurd (omega arith)
+four_counts (a ∷ b ∷ c ∷ []) e = absurd (omega arith)
+four_counts (a ∷ b ∷ c ∷ d ∷ []) e = refl
+four_counts (a ∷ b ∷ c ∷ d ∷ f ∷ counts) e = absurd (omega arith)
 
 failure-at-most : (f : EscIdleQualificationFailure) → length (failure_bytes f) ≤ 5
 unfolding failure_bytes bytes_of
 failure-at-most failure.InvalidConfig = omega arith
 failure-at-most (failure.Overspeed output erpm) = omega arith
-failure-at-most (failure.Timeout counts) = omega (arith, length-take 4 counts)
+failure-at-most (failure.Timeout counts) = omega arith
 
-idle-at-most : (i : Option EscIdleQualificationStatus) → length (idle_bytes i) ≤ 5
+pub idle-at-most : (i : Option EscIdleQualificationStatus) → length (idle_bytes i) ≤ 5
 unfolding idle_bytes
 idle-at-most None = omega arith
 idle-at-most (Some idle.Pending) = omega arith
 idle-at-most (Some idle.Qualified) = omega arith
 idle-at-most (Some (idle.Failed f)) = failure-at-most f
 
-delivered-at-most : (d : Delivered) → length (delivered_bytes d) ≤ 28
+pub delivered-length : (d : Delivered) → length (delivered_bytes d) ≡ 23 + length (idle_bytes d.status)
 unfolding delivered_bytes
-delivered-at-most d = omega (arith, length-append (sample_bytes d.update) (idle_bytes d.status), sample-length d.update, idle-at-most d.status)
+delivered-length d = omega (arith, length-append (sample_bytes d.update) (idle_bytes d.status), sample-length d.update)
 
-body-at-most : (a : Answer) → length (body_bytes a) ≤ 42
+pub delivered-at-most : (d : Delivered) → length (delivered_bytes d) ≤ 28
+delivered-at-most d = omega (arith, delivered-length d, idle-at-most d.status)
+
+pub body-at-most : (a : Answer) → length (body_bytes a) ≤ 42
 unfolding body_bytes next_bytes ack_bytes timeout_bytes wire_bytes back_bytes stored_bytes bytes_of
 body-at-most answer.Done = omega arith
 body-at-most (answer.Request None) = omega arith
@@ -90,9 +103,13 @@ body-at-most (answer.Stored None) = omega arith
 body-at-most (answer.Stored (Some u)) = omega (arith, sample-length u)
 body-at-most (answer.Figures f) = omega (arith, figure-length f)
 
-pub answer-at-most : (a : Answer) → length (answer_bytes a) ≤ longest_answer
+-- 00 and its body
+pub answer-length : (a : Answer) → length (answer_bytes a) ≡ 1 + length (body_bytes a)
 unfolding answer_bytes
-answer-at-most a = omega (arith, body-at-most a)
+answer-length a = omega arith
+
+pub answer-at-most : (a : Answer) → length (answer_bytes a) ≤ longest_answer
+answer-at-most a = omega (arith, answer-length a, body-at-most a)
 
 -- the answers that 02, 03 and 05 give in two bytes, and a delivered sample, which 03 and 05 show alike
 pub decided-bytes : (b : Bool) → answer_bytes (answer.Decided b) ≡ 0x00 ∷ flag_byte b ∷ []

@@ -1,5 +1,5 @@
 -- The bytes of an answer (document 01, 'Records'): an accepted answer starts with 00, and a refusal is its number alone.
-use Rattle.std.specs.Prelude.{ℕ, Bool, true, false, Option, Some, None, List, [], ◌∷◌, ◌++◌, take}
+use Rattle.std.specs.Prelude.{ℕ, Bool, true, false, Option, Some, None, List, [], ◌∷◌, ◌++◌, get_or}
 use Rattle.base.specs.Reply.{Reply, accepted, refused}
 use Rattle.base.specs.BigEndian.{bytes_of}
 use Rattle.blheli_telemetry.specs.Frame.{payload_of}
@@ -43,12 +43,11 @@ sample_bytes u =
     ++ (bytes_of 4 u.observation.request_sequence
     ++ (bytes_of 8 u.observation.observed_at_ms ++ payload_of u.observation.sample))
 
--- 03 invalid settings, 04 overspeed with L and eRPM (2), 05 timeout with four counts (1 each): a list in a definition has no length of its own,
--- so the four are taken
+-- 03 invalid settings, 04 overspeed with L and eRPM (2), 05 timeout with four counts (1 each)
 unfoldable pub failure_bytes : EscIdleQualificationFailure → List ℕ
 failure_bytes failure.InvalidConfig = 0x03 ∷ []
 failure_bytes (failure.Overspeed output erpm) = 0x04 ∷ lane_of output ∷ bytes_of 2 erpm
-failure_bytes (failure.Timeout counts) = 0x05 ∷ take 4 counts
+failure_bytes (failure.Timeout counts) = 0x05 ∷ get_or counts 0 0 ∷ get_or counts 1 0 ∷ get_or counts 2 0 ∷ get_or counts 3 0 ∷ []
 
 -- 00 no check, 01 pending, 02 qualified
 unfoldable pub idle_bytes : Option EscIdleQualificationStatus → List ℕ

@@ -2,6 +2,7 @@
 ghost use Rattle.std.specs.Prelude.{◌≡◌, ◌∷◌};
 ghost use Rattle.esc_answers.specs.Answer.{body_bytes, answer_bytes};
 ghost use Rattle.esc_answers.specs.Body.{answer_says, next_says, ack_says, timeout_says, wire_says};
+ghost use Rattle.esc_answers.specs.Encoded.{encoded_of};
 ghost use Rattle.esc_answers.specs.declared.answer.Answer.{Answer};
 ghost use Rattle.esc_answers.specs.declared.answer.Answer.TheVariants as answer;
 
@@ -20,7 +21,7 @@ pub trait Body: Encode {
 
 // The bytes of an answer, told as what its variant holds where the caller knows the kind, so that no `Answer` is made first.
 pub fn encode<T: Body>(body: T) -> AnswerBytes
-    ensures { result ≡ answer_bytes (T.answer body) }
+    ensures { encoded_of result ≡ answer_bytes (T.answer body) }
 {
     let mut bytes = AnswerBytes::accepted();
     body.encode(&mut bytes);

@@ -80,7 +80,7 @@ impl Encode for Option<EscIdleQualificationStatus> {
 impl Encode for EscIdleQualificationFailure {
     ghost bytes = { failure_bytes };
 
-    #[tactic(auto, unfolding(crate::specs::Answer::failure_bytes))]
+    #[tactic(auto, using(crate::proofs::AnswerLaws::four_counts), unfolding(crate::specs::Answer::failure_bytes))]
     fn encode(self, to: &mut AnswerBytes) {
         match self {
             EscIdleQualificationFailure::InvalidConfig => to.push(0x03),

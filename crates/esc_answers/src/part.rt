@@ -1,6 +1,7 @@
 // What an answer is made of: each part puts its bytes behind those of the parts before it.
 ghost use Rattle.std.specs.Prelude.{◌≡◌, ℕ, ◌+◌, ◌≤◌, List, ◌++◌, length};
 ghost use Rattle.esc_answers.specs.Answer.{longest_answer, optional_bytes};
+ghost use Rattle.esc_answers.specs.Encoded.{encoded_of};
 
 use crate::answer_bytes::AnswerBytes;
 
@@ -10,8 +11,8 @@ pub trait Encode {
 
     // Puts the part's bytes behind those that are there.
     fn encode(self, to: &mut AnswerBytes)
-        requires { length to.old + length (bytes self) ≤ longest_answer }
-        ensures { to.new ≡ to.old ++ bytes self };
+        requires { length (encoded_of to.old) + length (bytes self) ≤ longest_answer }
+        ensures { encoded_of to.new ≡ encoded_of to.old ++ bytes self };
 }
 
 // 00 none, or 01 and what there is. What has numbers of its own for that is in `outcomes`.

@@ -31,11 +31,11 @@ unfolding call_of
 call-read u s room = refl
 
 -- what is taken is answered, and what is not is refused by 8
-data Entered (o : Option Opened) (r : Record) (k : Replied) : Type 0 where
+pub data Entered (o : Option Opened) (r : Record) (k : Replied) : Type 0 where
   taken : (s : Stepped) → is_some o || opens r ≡ true → k ≡ accepting s → Entered o r k
   unopened : is_some o || opens r ≡ false → k ≡ refusing (record { opened = o }) 8 → Entered o r k
 
-entered : (o : Option Opened) (r : Record) → Entered o r (enter_in o r)
+pub entered : (o : Option Opened) (r : Record) → Entered o r (enter_in o r)
 entered (Some o) r = taken (step_of o.manager o.books r) refl refl
 entered None (kind.Open c t) = taken (opening c t) refl refl
 entered None (kind.NextRequest now) = unopened refl refl

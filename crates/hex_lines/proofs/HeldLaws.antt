@@ -1,8 +1,6 @@
 -- The first 59 characters of a line say as much as the whole, since such a line is too wide; and they may be held part by part.
 use Rattle.std.proofs.Common.{◌≡◌, ℕ, ◌+◌, ◌-◌, ◌≤◌, List, [], ◌∷◌, ◌++◌, length, take, min, sym, ap, ◌∙◌, arith}
 use Rattle.std.proofs.lemmas.List.{length-take, length-take-le, take_all, take-append-le, take_min}
-use Rattle.std.proofs.lemmas.Slice.{take-put_mid}
-use borrow.Rule.Slice.PartMut.{put_mid}
 use lib.Seq.{take-take, take-append-add}
 use Rattle.base.proofs.ByCases.{below_or_not}
 use Rattle.hex_lines.specs.HeldLine.{held_characters}
@@ -26,7 +24,7 @@ enough-more line c =
     ∙ sym (take-append-le most_held line (c ∷ []) h))
 
 -- as much more of a line as there is room for
-up_to_room : (line more : List ℕ) (n : ℕ) → length line ≤ most_held → n ≡ min (length more) (most_held - length line)
+pub up_to_room : (line more : List ℕ) (n : ℕ) → length line ≤ most_held → n ≡ min (length more) (most_held - length line)
     → line ++ take n more ≡ take most_held (line ++ more)
 up_to_room line more n h e =
     let room : most_held ≡ length line + (most_held - length line) = omega arith in
@@ -34,16 +32,6 @@ up_to_room line more n h e =
     rw m (ap (λ (l : List ℕ). line ++ l) (take_min (most_held - length line) more))
     ∙ sym (take-append-add line more (most_held - length line))
     ∙ ap (λ (k : ℕ). take k (line ++ more)) (sym room)
-
--- the same, as the code stores it
-pub held_more : (characters more part : List ℕ) (count n : ℕ) → length characters ≡ most_held → count ≤ most_held
-    → n ≡ min (length more) (most_held - count) → part ≡ take n more
-    → take (count + n) (put_mid count (count + n - count) characters part) ≡ take most_held (take count characters ++ more)
-held_more characters more part count n room within e p =
-    let held : length (take count characters) ≡ count = length-take-le count characters (omega arith) in
-    let long : length part ≡ n = rw p (length-take-le n more (omega arith)) in
-    take-put_mid count (count + n - count) characters part (count + n) (omega arith) (omega arith)
-    ∙ rw p (up_to_room (take count characters) more n (omega arith) (omega arith))
 
 -- no line holds more
 pub held-short : (line : HeldLine) → length (held_characters line) ≤ most_held

@@ -2,7 +2,7 @@
 // so that a line that is too wide needs no mark.
 ghost use Rattle.std.specs.Prelude.{◌≤◌};
 
-const HELD: usize = 59;
+pub const HELD: usize = 59;
 
 #[derive(Clone, Copy)]
 pub struct HeldLine {
@@ -26,6 +26,13 @@ impl HeldLine {
         }
     }
 
+    // How many characters are held.
+    pub fn len(&self) -> usize
+        ensures { result ≡ length (held_characters self.now) }
+    {
+        self.characters().len()
+    }
+
     // Whether no line is begun.
     pub fn is_empty(&self) -> bool
         ensures { result ≡ length (held_characters self.now) == 0 }
@@ -40,15 +47,16 @@ impl HeldLine {
         &self.characters[..self.count]
     }
 
-    // Holds more of the line, as much as there is room for.
-    #[tactic(auto, using(crate::proofs::HeldLaws::held_more))]
+    // Holds more of the line, as much as there is room for. It stores one character at a time: for a copy of any length the compiler calls
+    // `memmove`, which an archive for C then asks for.
     pub(crate) fn hold(&mut self, more: &[u8])
         ensures { held_characters self.new ≡ take most_held (held_characters self.old ++ more.now) }
     {
-        let from = self.count;
-        let n = more.len().min(HELD - from);
-        self.characters[from..from + n].copy_from_slice(&more[..n]);
-        self.count = from + n;
+        let n = more.len().min(HELD - self.count);
+        for &character in &more[..n] {
+            self.characters[self.count] = character;
+            self.count += 1;
+        }
     }
 
     // Begins anew.

@@ -1,6 +1,7 @@
 // A line of hexadecimal characters and the bytes that it stands for.
 ghost use Rattle.std.specs.Prelude.{◌≡◌, ◌+◌, ◌*◌, ◌≤◌, ◌<◌, length, take, drop};
 ghost use Rattle.base.specs.BigEndian.{overwrite};
+ghost use Rattle.base.specs.Put.{Put};
 ghost use Rattle.hex_lines.specs.Line.{read_line, printed_line, line_read, PairsRead, NoPairBegins, longest_record};
 
 use crate::digits::{Digits, glyph};
@@ -87,8 +88,7 @@ pub fn print_line(bytes: &[u8], out: &mut [u8], at: usize) -> usize
 #[tactic(auto, unfolding(base::specs::BigEndian::overwrite))]
 fn put(text: &[u8], out: &mut [u8], at: usize) -> usize
     requires { at + length text.now ≤ length out.old }
-    ensures value { result ≡ at + length text.now }
-    ensures out_after { out.new ≡ overwrite at text.now out.old }
+    ensures { Put at text.now out.old out.new result }
 {
     let behind = at + text.len();
     out[at..behind].copy_from_slice(text);

@@ -9,7 +9,7 @@ use crate::line::{LINE_END, LONGEST_RECORD, read_line, read_pairs};
 use base::Refusal;
 
 // A line that LF ends: the bytes that it stands for, and the place behind LF.
-#[derive(Drop)]
+#[derive(Clone, Copy)]
 pub struct EndedLine<'bytes> {
     pub read: Result<&'bytes [u8], Refusal>,
     pub behind: usize,

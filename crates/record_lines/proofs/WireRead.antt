@@ -4,13 +4,14 @@ use Rattle.std.proofs.Common.{arith, zero-add, length-append, take-append-drop}
 use Rattle.std.proofs.lemmas.List.{length-take-le}
 use Rattle.base.specs.BigEndian.{number_at}
 use Rattle.base.specs.Reply.{accepted}
+use Rattle.esc_records.specs.Admission.{admitted_on, admitted_of}
 use Rattle.esc_records.specs.Record.{record_of, read_record}
 use Rattle.esc_records.specs.declared.record.Record.TheVariants as kind
 use Rattle.esc_records.proofs.RecordLaws.{read-accepted}
 use Rattle.hex_lines.specs.Digit.{small_digit, small, digit_of, pair_of}
 use Rattle.hex_lines.specs.Line.{line_end, all_digits, pairs}
 use Rattle.hex_lines.specs.NextLine.{first_line}
-use Rattle.record_lines.specs.NextRecord.{record_by}
+use Rattle.record_lines.specs.NextRecord.{admitted_by}
 use Rattle.record_lines.specs.WireLine.{WireAt, NumberRead}
 use Rattle.hex_lines.proofs.FirstLine.{first_before}
 use Rattle.hex_lines.proofs.LineLaws.{read_whole}
@@ -43,7 +44,7 @@ wire_line_read : (chunk : List ℕ) → 4 ≤ length chunk → get_or chunk 0 0 
     → (v : ℕ) → pair_of (get_or chunk 2 0) (get_or chunk 3 0) ≡ Some v
     → (time behind : List ℕ) → length time ≡ 16 → drop 4 chunk ≡ time ++ behind → 0 < length behind → get_or behind 0 0 ≡ line_end
     → (t : ℕ) → NumberRead time t → WireAt chunk (record { byte = v; at_ms = t })
-unfolding all_digits pairs digit_of small small_digit
+unfolding all_digits pairs digit_of small small_digit admitted_of
 wire_line_read [] h z f v p time behind l e b lf t n = absurd (omega arith)
 wire_line_read (x ∷ []) h z f v p time behind l e b lf t n = absurd (omega arith)
 wire_line_read (x ∷ y ∷ []) h z f v p time behind l e b lf t n = absurd (omega arith)
@@ -61,7 +62,7 @@ wire_line_read (x ∷ y ∷ c ∷ d ∷ more) h z f v p time behind l e b lf t n
     record {
       long = omega (arith, ap length e, length-append time behind);
       ends = rw first (omega arith);
-      stands = rw first (ap record_by (read_whole line (omega arith) digits (omega arith)) ∙ record-read);
+      admitted = rw first (ap (admitted_by true) (read_whole line (omega arith) digits (omega arith)) ∙ ap (admitted_on true) record-read);
     }
 
 pub wire_read : (chunk : List ℕ) → 4 ≤ length chunk → get_or chunk 0 0 ≡ 0x30 → get_or chunk 1 0 ≡ 0x35

@@ -1,11 +1,9 @@
 // A line with a wire byte, as most lines of a session are: it is read straight into its numbers.
 ghost use Rattle.std.specs.Prelude.{IfSome};
-ghost use Rattle.hex_lines.specs.HeldLine.{held_characters};
 ghost use Rattle.record_lines.specs.WireLine.{WireAt, NumberRead, CollectedAt};
 
 use blheli_telemetry::StreamParser;
 use hex_lines::digits::Digits;
-use hex_lines::held_line::HeldLine;
 use hex_lines::line::LINE_END;
 
 // How many characters the time has.
@@ -21,17 +19,18 @@ pub struct WireByte {
     pub at_ms: u64,
 }
 
-// The byte at the front of a chunk, where it is a line of its own and the parser only collects it: it then moves
-// nothing but the parser and the fault's quiet time.
+// The byte at the front of a chunk, where it is a line of its own, of which nothing is held, and the parser of an opened unit
+// only collects it: it then moves nothing but the parser and the fault's quiet time.
 pub fn collected_byte(
     digits: &Digits,
     chunk: &[u8],
-    line: &HeldLine,
+    held: usize,
+    opened: bool,
     parser: StreamParser,
 ) -> Option<WireByte>
-    ensures { IfSome result (CollectedAt (held_characters line.now) parser chunk.now) }
+    ensures { IfSome result (CollectedAt held opened parser chunk.now) }
 {
-    if line.is_empty() && parser.collects() {
+    if held == 0 && opened && parser.collects() {
         wire_line(digits, chunk)
     } else {
         None
@@ -72,7 +71,7 @@ mod tests {
 
     // The byte and its time, of a chunk in which a line begins.
     fn read(chunk: &[u8]) -> Option<(u8, u64)> {
-        let wire = collected_byte(&Digits::new(), chunk, &HeldLine::new(), StreamParser::new())?;
+        let wire = collected_byte(&Digits::new(), chunk, 0, true, StreamParser::new())?;
         Some((wire.byte, wire.at_ms))
     }
 

@@ -18,7 +18,7 @@ use Rattle.esc_lanes.specs.declared.request.EscActuatorAck.{EscActuatorAck}
 use Rattle.esc_lanes.specs.declared.request.EscTelemetryUpdate.{EscTelemetryUpdate}
 use Rattle.esc_feedback.specs.declared.answer.EscAckOutcome.TheVariants as outcome
 use Rattle.esc_feedback.specs.declared.answer.After.{After}
-use Rattle.std.specs.Prelude.{Option, Some, None}
+use Rattle.std.specs.Prelude.{Option, Some, None, is_some}
 use Rattle.esc_answers.specs.declared.answer.AckAnswer.TheVariants as ack
 use Rattle.esc_feedback.proofs.WireLaws.{pushed-collected}
 use Rattle.esc_books.specs.Books.{booked_in}
@@ -34,15 +34,15 @@ use Rattle.esc_kinds.specs.declared.opened.Stepped.{Stepped}
 use Rattle.esc_kinds.specs.declared.opened.Opened.{Opened}
 use Rattle.esc_unit.specs.declared.unit.Unit.{Unit}
 use Rattle.esc_kinds.proofs.StepLaws.{step-next, step-mark, step-ack, step-poll, step-byte}
-use Rattle.esc_unit.proofs.UnitLaws.{enter-opened, call-read}
+use Rattle.esc_unit.proofs.UnitLaws.{enter-opened, call_admission}
 use Rattle.unit_text.specs.Session.{answer_on}
-use Rattle.record_lines.specs.NextRecord.{record_by}
+use Rattle.record_lines.specs.NextRecord.{admitted_by}
 use Rattle.unit_text.specs.Answering.{Answers}
 
--- a line is answered by the record that it stands for
-answer-by : (u : Unit) (l : Reply (List ℕ)) → answer_on u l ≡ call_on u longest_answer (record_by l)
+-- a line is answered by the record that is taken of it
+answer-by : (u : Unit) (l : Reply (List ℕ)) → answer_on u l ≡ call_on u longest_answer (admitted_by (is_some u.opened) l)
 answer-by u (refused n) = refl
-answer-by u (accepted s) = call-read u s longest_answer
+answer-by u (accepted s) = call_admission u s longest_answer
 
 -- every answer has room
 roomy : (u : Unit) (k : Replied) (y : Reply Answer) → if_room u longest_answer k y ≡ k
@@ -50,14 +50,14 @@ roomy u k (refused n) = refl
 roomy u k (accepted a) = rw (le-leb (length (answer_bytes a)) longest_answer (answer-at-most a))
 
 module _ (u : Unit) (l : Reply (List ℕ)) where
-  pub answers-refused : (n : ℕ) → record_by l ≡ refused n → Answers u l u (n ∷ [])
+  pub answers-refused : (n : ℕ) → admitted_by (is_some u.opened) l ≡ refused n → Answers u l u (n ∷ [])
   unfolding reply_bytes
   answers-refused n e =
       let by : answer_on u l ≡ refusing u n = answer-by u l ∙ ap (call_on u longest_answer) e in
       record { unit = sym (ap (λ (k : Replied). k.unit) by); bytes = sym (ap (λ (k : Replied). reply_bytes k.reply) by) }
 
   -- a record of any kind, whether the unit was opened or not
-  pub answers-entered : (r : Record) (k : Replied) → record_by l ≡ accepted r → enter u r ≡ k → Answers u l k.unit (reply_bytes k.reply)
+  pub answers-entered : (r : Record) (k : Replied) → admitted_by (is_some u.opened) l ≡ accepted r → enter u r ≡ k → Answers u l k.unit (reply_bytes k.reply)
   answers-entered r k e q =
       let by : answer_on u l ≡ k =
       answer-by u l
@@ -68,28 +68,28 @@ module _ (u : Unit) (l : Reply (List ℕ)) where
 
 -- an opened unit
 module _ (u : Unit) (w : Opened) (is : u.opened ≡ Some w) (l : Reply (List ℕ)) where
-  answers-step : (r : Record) (s : Stepped) → record_by l ≡ accepted r → step_of w.manager w.books r ≡ s
+  pub answers-step : (r : Record) (s : Stepped) → admitted_by (is_some u.opened) l ≡ accepted r → step_of w.manager w.books r ≡ s
       → Answers u l (unit_of s.opened.manager s.opened.books) (answer_bytes s.answer)
   unfolding reply_bytes
   answers-step r s e q = answers-entered u l r (accepting s) e (enter-opened u w r is ∙ ap accepting q)
 
   -- the same where what is printed is known by another name
-  answers-said : (r : Record) (s : Stepped) (said : List ℕ) → record_by l ≡ accepted r → step_of w.manager w.books r ≡ s
+  answers-said : (r : Record) (s : Stepped) (said : List ℕ) → admitted_by (is_some u.opened) l ≡ accepted r → step_of w.manager w.books r ≡ s
       → said ≡ answer_bytes s.answer → Answers u l (unit_of s.opened.manager s.opened.books) said
   answers-said r s said e q b = let k = answers-step r s e q in record { unit = k.unit; bytes = b ∙ k.bytes }
 
   -- 01
-  pub answers_next : (t : ℕ) → record_by l ≡ accepted (kind.NextRequest t)
+  pub answers_next : (t : ℕ) → admitted_by (is_some u.opened) l ≡ accepted (kind.NextRequest t)
       → Answers u l (unit_of w.manager w.books) (answer_bytes (answer.Request (next_request w.manager t)))
   answers_next t e = answers-step _ _ e (step-next w.manager w.books t)
 
   -- 02
-  pub answers-marked : (q : EscActuatorRequest) (t : ℕ) → record_by l ≡ accepted (kind.MarkRequestQueued q t)
+  pub answers-marked : (q : EscActuatorRequest) (t : ℕ) → admitted_by (is_some u.opened) l ≡ accepted (kind.MarkRequestQueued q t)
       → Answers u l (unit_of (mark_queued w.manager q t).manager w.books) (0x00 ∷ flag_byte (mark_queued w.manager q t).answer ∷ [])
   answers-marked q t e = answers-said _ _ _ e (step-mark w.manager w.books t q) (sym (decided-bytes _))
 
   -- 03: the outcome decides
-  module _ (k : EscActuatorAck) (t : ℕ) (e : record_by l ≡ accepted (kind.ActuatorAck k t)) where
+  module _ (k : EscActuatorAck) (t : ℕ) (e : admitted_by (is_some u.opened) l ≡ accepted (kind.ActuatorAck k t)) where
     pub answers-rejected : (on_ack w.manager k).answer ≡ outcome.Rejected
         → Answers u l (unit_of (on_ack w.manager k).manager w.books) (0x00 ∷ flag_byte false ∷ [])
     answers-rejected o = answers-said _ _ _ e (step-ack w.manager w.books t k _ o) (sym rejected-bytes)
@@ -104,12 +104,12 @@ module _ (u : Unit) (w : Opened) (is : u.opened ≡ Some w) (l : Reply (List ℕ
     answers-acked x o = answers-step _ _ e (step-ack w.manager w.books t k _ o)
 
   -- 04
-  pub answers-polled : (t : ℕ) → record_by l ≡ accepted (kind.PollTimeout t)
+  pub answers-polled : (t : ℕ) → admitted_by (is_some u.opened) l ≡ accepted (kind.PollTimeout t)
       → Answers u l (unit_of (poll_timeout w.manager t).manager w.books) (answer_bytes (answer.Timeout (poll_timeout w.manager t).answer))
   answers-polled t e = answers-step _ _ e (step-poll w.manager w.books t)
 
   -- 05: a sample or none
-  module _ (x t : ℕ) (e : record_by l ≡ accepted (kind.WireByte x t)) where
+  module _ (x t : ℕ) (e : admitted_by (is_some u.opened) l ≡ accepted (kind.WireByte x t)) where
     pub answers-none : (push_wire w.manager x t).answer ≡ None
         → Answers u l (unit_of (push_wire w.manager x t).manager w.books) (0x00 ∷ flag_byte false ∷ [])
     answers-none o = answers-said _ _ _ e (step-byte w.manager w.books t x _ o) (sym no-wire-bytes)

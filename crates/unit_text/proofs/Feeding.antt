@@ -1,5 +1,6 @@
 -- What feeding a chunk keeps from line to line: the stream, the output and the count are those of the characters passed.
 use mathlib.Core.Path.{◌≡◌, refl, sym, ap, ◌∙◌}
+use mathlib.Core.Bool.{Bool}
 use mathlib.Core.List.{List, [], ◌∷◌, ◌++◌, append-nil, append_assoc}
 use Prim.Native.Nat.{ℕ, ◌+◌, ◌-◌, ◌≤◌, ◌<◌}
 use native.Mathlib.Omega.{arith}
@@ -191,10 +192,10 @@ module _ {s : Streamed} {chunk out₀ : List ℕ} {unit : Unit} {begun out : Lis
           }
 
 -- a line that was read, answered and printed
-pub feeding-record : {s : Streamed} {chunk out₀ : List ℕ} {unit : Unit} {begun out : List ℕ} {used written : ℕ}
+pub feeding-record : {s : Streamed} {chunk out₀ : List ℕ} {unit : Unit} {begun out : List ℕ} {used written : ℕ} {opened : Bool}
     {ended : EndedRecord} {unit' : Unit} {said : List ℕ} {written' : ℕ} {out' : List ℕ}
     → Feeding s chunk out₀ unit begun out used written → longest_line ≤ length out₀ - written
-    → RecordEnded begun (drop used chunk) ended
+    → RecordEnded opened begun (drop used chunk) ended
     → Answers unit (read_line (begun ++ first_line (drop used chunk))) unit' said → LinePut said written out written' out'
     → length out' ≡ length out
     → Feeding s chunk out₀ unit' [] out' (used + ended.behind) written'

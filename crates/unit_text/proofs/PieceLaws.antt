@@ -1,14 +1,13 @@
 -- A session printed piece by piece: the pieces that the stream gives, and a piece more as it is counted or written.
-use Rattle.std.proofs.Common.{◌≡◌, ℕ, ◌+◌, ◌-◌, ◌≤◌, List, [], ◌∷◌, ◌++◌, Result, Ok, Err, length, take, drop, refl, sym, ap, ◌∙◌}
-use Rattle.std.proofs.Common.{arith, append_assoc, length-append, drop-drop, take-append-drop}
+use Rattle.std.proofs.Common.{◌≡◌, ℕ, ◌+◌, ◌≤◌, List, [], ◌∷◌, ◌++◌, Result, Ok, Err, length, take, drop, refl, sym, ap, ◌∙◌}
+use Rattle.std.proofs.Common.{arith, append_assoc, length-append, take-append-drop}
 use Rattle.std.proofs.lemmas.List.{length-take-le}
-use borrow.Rule.Slice.PartMut.{put_mid}
 use Rattle.base.specs.BigEndian.{overwrite}
-use Rattle.base.specs.Handed.{handed_reply, handed_output}
+use Rattle.base.specs.Handed.{handed_reply, handed_output, copied}
 use Rattle.base.specs.Reply.{replied, accepted}
 use Rattle.base.specs.declared.refusal.Refusal.{Refusal}
 use Rattle.base.proofs.BigEndianLaws.{overwrite-append}
-use Rattle.base.proofs.HandLaws.{fits-reply, told-length, told_text}
+use Rattle.base.proofs.HandLaws.{fits-reply, told-length, told_text, copied-fits}
 use Rattle.base.proofs.PutLaws.{overwrite-none}
 use Rattle.unit_text.specs.Session.{session_text}
 use Rattle.unit_text.specs.Stream.{Streamed, Taken, after, printed, printed_at_end, feed_of, fed_output, longest_line}
@@ -71,13 +70,6 @@ pub written_none : (text : List ℕ) (pieces : Pieces) (out : List ℕ) → leng
 written_none text pieces out room e =
     record { room = room; front = []; parts = sym e; place = refl; copied = sym (overwrite-none 0 out) }
 
--- a part of an output that is copied from elsewhere
-placed : (at n : ℕ) (out b : List ℕ) → length b ≡ n → put_mid at (at + n - at) out b ≡ overwrite at b out
-unfolding overwrite
-placed at n out b l =
-    let k : at + n - at ≡ n = omega arith in
-    rw (k, drop-drop n at out, l)
-
 module _ {text : List ℕ} {pieces : Pieces} {out₀ : List ℕ} {end : ℕ} {out : List ℕ} (k : Written text pieces out₀ end out)
     {n : ℕ} {next : Pieces} (p : PieceOf pieces n next) where
   long : length (take n next.piece) ≡ n
@@ -86,14 +78,15 @@ module _ {text : List ℕ} {pieces : Pieces} {out₀ : List ℕ} {end : ℕ} {ou
   written_room : end + n ≤ length out₀
   written_room = omega (arith, k.room, ap length k.parts, length-append k.front (left_text pieces), piece_length p, k.place)
 
-  pub written_more : (piece : List ℕ) → piece ≡ take n next.piece → length out ≡ length out₀
-      → Written text next out₀ (end + n) (put_mid end (end + n - end) out piece)
-  written_more piece e same =
-      let o : put_mid end (end + n - end) out piece ≡ overwrite end (take n next.piece) out = rw e (placed end n out (take n next.piece) long) in
+  pub written_more : length out ≡ length out₀ → Written text next out₀ (end + n) (copied end (take n next.piece) out)
+  written_more same =
+      let piece = take n next.piece in
       record {
         room = k.room;
-        front = k.front ++ take n next.piece;
-        parts = k.parts ∙ rw p.text (sym (append_assoc k.front (take n next.piece) (left_text next)));
+        front = k.front ++ piece;
+        parts = k.parts ∙ rw p.text (sym (append_assoc k.front piece (left_text next)));
         place = rw (length-append, long, k.place);
-        copied = o ∙ rw k.copied (overwrite-append 0 end k.front (take n next.piece) out₀ (omega (arith, k.place)) (omega (arith, long, written_room)));
+        copied =
+            copied-fits end piece out (omega (arith, long, written_room, same))
+            ∙ rw k.copied (overwrite-append 0 end k.front piece out₀ (omega (arith, k.place)) (omega (arith, long, written_room)));
       }

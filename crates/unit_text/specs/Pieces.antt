@@ -24,10 +24,6 @@ steps_in None = 0
 abbrev pub steps_left : Pieces → ℕ
 steps_left pieces = steps_in pieces.rest
 
--- as far as answers are counted, which is past any output
-abbrev pub most_counted : ℕ
-most_counted = 0xffff_ffff_ffff_ffff
-
 -- a piece is what was left, up to what is left behind it; none comes where nothing was left
 pub record PieceOf (before : Pieces) (n : ℕ) (after : Pieces) : Type 0 where
   pub room : length after.piece ≡ 4096

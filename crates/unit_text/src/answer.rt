@@ -2,6 +2,7 @@
 ghost use Rattle.std.specs.Prelude.{[], ◌∷◌, ◌+◌, ◌≤◌, ◌≡◌, length};
 ghost use Rattle.base.specs.Reply.{refusal_number, replied};
 ghost use Rattle.esc_answers.specs.Answer.{flag_byte, reply_bytes};
+ghost use Rattle.esc_answers.specs.Encoded.{encoded_of};
 ghost use Rattle.unit_text.specs.Answering.{LinePut};
 ghost use Rattle.unit_text.specs.Stream.{longest_line};
 
@@ -12,7 +13,7 @@ use hex_lines::line::print_line;
 
 pub(crate) fn print_answer(answer: &AnswerBytes, out: &mut [u8], at: usize) -> usize
     requires { at + longest_line ≤ length out.old }
-    ensures { LinePut answer.now at out.old result out.new }
+    ensures { LinePut (encoded_of answer.now) at out.old result out.new }
 {
     print_line(answer.as_slice(), out, at)
 }

@@ -63,8 +63,15 @@ impl Stream {
         while used < chunk.len() && LONGEST_LINE <= out.len() - written {
             // A byte that the parser only collects stands in its line, and is taken from there.
             if let Some(Opened { manager, .. }) = &mut unit.opened {
-                if let Some(wire) = collected_byte(&digits, &chunk[used..], &line, manager.parser) {
-                    manager.parser = manager.parser.collected(wire.byte);
+                let parser = manager.parser;
+                if let Some(wire) = collected_byte(
+                    &digits,
+                    &chunk[used..],
+                    line.len(),
+                    true,
+                    parser,
+                ) {
+                    manager.parser = parser.collected(wire.byte);
                     manager.fault = manager.fault.heard(wire.at_ms);
                     written = print_flag(false, out, written);
                     used += WIRE_LINE + 1;
@@ -72,7 +79,8 @@ impl Stream {
                 }
             }
             // Else the next line is read, or what the chunk has of it is held for the next chunk.
-            let Some(ended) = next_record(&digits, &chunk[used..], &mut line) else {
+            let opened = unit.opened.is_some();
+            let Some(ended) = next_record(&digits, &chunk[used..], &mut line, opened) else {
                 used = chunk.len();
                 break;
             };
@@ -144,8 +152,14 @@ impl Stream {
                         }
                     }
                 }
-                // Any other kind, and whatever comes before the first 00, goes by `step`.
-                _ => {
+                // Any other kind goes by `step`.
+                (Some(opened), record) => {
+                    let stepped = opened.step(record);
+                    *opened = stepped.opened;
+                    written = print_answer(&encode(stepped.answer), out, written);
+                }
+                // Nothing but a 00 is taken before the first 00.
+                (None, record) => {
                     let called = unit.step(record);
                     written = print_called(called, &mut unit, out, written);
                 }

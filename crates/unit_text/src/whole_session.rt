@@ -1,13 +1,12 @@
 // A whole session: text in, text out.
-ghost use Rattle.std.specs.Prelude.{◌≡◌, ◌≤◌, length, min};
+ghost use Rattle.std.specs.Prelude.{◌≡◌, ◌≤◌, length};
 ghost use Rattle.base.specs.BigEndian.{overwrite};
 ghost use Rattle.base.specs.Handed.{handed_reply, handed_output};
 ghost use Rattle.base.specs.Reply.{replied};
 ghost use Rattle.unit_text.specs.Session.{session_text};
-ghost use Rattle.unit_text.specs.Pieces.{most_counted};
 
 use crate::pieces::Pieces;
-use base::Refusal;
+use base::{Refusal, copy};
 
 // The answers to the lines of a text, from a unit that was never opened.
 pub fn session(text: &[u8], out: &mut [u8]) -> Result<usize, Refusal>
@@ -15,24 +14,24 @@ pub fn session(text: &[u8], out: &mut [u8]) -> Result<usize, Refusal>
     ensures out_after { out.new ≡ handed_output (session_text text.now) out.old }
 {
     // An output that is too short stays as it was found, so the answers are counted first.
-    let count = count_answers(text);
-    if out.len() < count {
-        return Err(Refusal::Space);
-    }
+    let count = count_answers(text, out.len())?;
     write_answers(text, out);
     Ok(count)
 }
 
-// How long the answers are, or the largest number, for which no output has room.
-fn count_answers(text: &[u8]) -> usize
-    ensures { result ≡ min (length (session_text text.now)) most_counted }
+// How long the answers are, or 9 where they do not fit: nothing behind the first piece that has no room is read.
+fn count_answers(text: &[u8], room: usize) -> Result<usize, Refusal>
+    ensures { replied result ≡ handed_reply (session_text text.now) room }
 {
     let mut pieces = Pieces::new(text);
     let mut count: usize = 0;
     while let Some(n) = pieces.next() {
-        count = count.saturating_add(n);
+        if room - count < n {
+            return Err(Refusal::Space);
+        }
+        count += n;
     }
-    count
+    Ok(count)
 }
 
 // Writes the answers into an output that has room for them.
@@ -43,8 +42,7 @@ fn write_answers(text: &[u8], out: &mut [u8])
     let mut pieces = Pieces::new(text);
     let mut end = 0;
     while let Some(n) = pieces.next() {
-        let behind = end + n;
-        out[end..behind].copy_from_slice(&pieces.piece[..n]);
-        end = behind;
+        copy(&pieces.piece, n, out, end);
+        end += n;
     }
 }

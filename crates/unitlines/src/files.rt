@@ -1,6 +1,6 @@
 // The files that the arguments name, each a session of its own, in their order. Where the output can't be written, the
 // rest can't either.
-use crate::arguments::argument;
+use crate::arguments::Text;
 use crate::buffers::Buffers;
 use crate::messages::{not_opened, not_read};
 use crate::output::NotWritten;
@@ -14,13 +14,13 @@ pub(crate) fn answer_all<const N: usize>(
     rt: &HostRuntime,
     buffers: &mut Buffers<N>,
 ) -> Result<(), NotWritten> {
+    let mut text = Text::new();
     let mut options = true;
     let mut named = false;
     for i in 1..usize::MAX {
-        let Some(text) = argument(rt, i) else {
+        let Some(name) = text.argument(rt, i) else {
             break;
         };
-        let name = text.as_slice();
         match classify(name, options) {
             Argument::EndOfOptions => options = false,
             Argument::Input => {

@@ -1,5 +1,5 @@
 // The first look at the arguments, before anything is opened.
-use crate::arguments::{Text, argument};
+use crate::arguments::Text;
 use command_line::{Argument, classify};
 use std::rt::Env;
 
@@ -14,9 +14,9 @@ pub(crate) enum Asked {
 
 // What the first option asks, wherever it stands. None where the files are to be answered.
 pub(crate) fn first_option(rt: &impl Env) -> Option<Asked> {
+    let mut text = Text::new();
     for i in 1..usize::MAX {
-        let text = argument(rt, i)?;
-        match classify(text.as_slice(), true) {
+        match classify(text.argument(rt, i)?, true) {
             Argument::Help => return Some(Asked::Help),
             Argument::Version => return Some(Asked::Version),
             Argument::UnknownOption => return Some(Asked::Unknown(text)),

@@ -2,27 +2,30 @@
 use crate::print::{Hex, Refused};
 use esc_answers::LONGEST_ANSWER;
 use esc_unit::Unit;
-use std::io;
 
 // What stands in the output before a call.
 const FOUND: u8 = 0xa5;
 
 // The unit after a call, which is printed with its answer or the number of the refusal; a room that is less than any answer
 // takes is printed as the call left it.
-pub fn call(rt: &impl Print, unit: Unit, room: usize, record: &[u8]) -> io::Result<Unit> {
+pub fn call(rt: &impl Print, unit: Unit, room: usize, record: &[u8]) -> Unit {
     let mut buffer = [FOUND; LONGEST_ANSWER];
     let out = &mut buffer[..room.min(LONGEST_ANSWER)];
     let called = unit.call(record, out);
-    print!(rt; "call {}: ", Hex(record))?;
+    let _ = print!(rt; "call {}: ", Hex(record));
     match called.reply {
-        Ok(n) => print!(rt; "{}", Hex(front(out, n)))?,
-        Err(refusal) => print!(rt; "{}", Refused(refusal))?,
+        Ok(n) => {
+            let _ = print!(rt; "{}", Hex(front(out, n)));
+        }
+        Err(refusal) => {
+            let _ = print!(rt; "{}", Refused(refusal));
+        }
     }
     if out.len() < LONGEST_ANSWER {
-        print!(rt; ", room {}", Hex(out))?;
+        let _ = print!(rt; ", room {}", Hex(out));
     }
-    println!(rt; "")?;
-    Ok(called.unit)
+    let _ = println!(rt; "");
+    called.unit
 }
 
 // The first n bytes.

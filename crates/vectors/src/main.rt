@@ -18,17 +18,15 @@ mod speed;
 mod steps;
 mod streams;
 
-use std::io;
-
-fn main(rt: HostRuntime) -> io::Result<()> {
-    crc::run(&rt)?;
-    frames::run(&rt)?;
-    streams::run(&rt)?;
-    captures::run(&rt)?;
-    lanes::run(&rt)?;
-    settings::run(&rt)?;
-    idle::run(&rt)?;
-    board_map::run(&rt)?;
-    speed::run(&rt)?;
-    session::run(&rt)
+fn main(rt: HostRuntime) {
+    crc::run(&rt);
+    frames::run(&rt);
+    streams::run(&rt);
+    captures::run(&rt);
+    lanes::run(&rt);
+    settings::run(&rt);
+    idle::run(&rt);
+    board_map::run(&rt);
+    speed::run(&rt);
+    session::run(&rt);
 }

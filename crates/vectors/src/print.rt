@@ -1,4 +1,4 @@
-// How what is computed is written.
+// How what is computed is written. A write that fails is let go: it shows as a line that the expected output has and this one lacks.
 use base::Refusal;
 use blheli_telemetry::EscTelemetry;
 use std::fmt;

@@ -2,10 +2,9 @@
 // is expected is document 01's session, and what esc_manager.rs answers to the same records.
 use crate::{calls, steps};
 use esc_unit::Unit;
-use std::io;
 
 // One session, each record by a call and by a step.
-pub fn run(rt: &impl Print) -> io::Result<()> {
+pub fn run(rt: &impl Print) {
     // On each line the room lent for the answer, how many bytes the record has, and the record. First
     // before an opening; then document 01's session; an idle check, the next request, queued and
     // acknowledged, and the ten bytes of its frame; what that leaves: the check's status, the note of
@@ -58,16 +57,15 @@ pub fn run(rt: &impl Print) -> io::Result<()> {
 }
 
 // What each record is answered by a call and by a step of the unit that the call before left.
-fn each(rt: &impl Print, records: &[u8]) -> io::Result<()> {
+fn each(rt: &impl Print, records: &[u8]) {
     let mut unit = Unit::new();
     let mut rest = records;
     while let [room, n, behind @ ..] = rest {
         let Some((record, next)) = behind.split_at_checked(usize::from(*n)) else {
-            return Ok(());
+            return;
         };
         rest = next;
-        steps::step(rt, unit, record)?;
-        unit = calls::call(rt, unit, usize::from(*room), record)?;
+        steps::step(rt, unit, record);
+        unit = calls::call(rt, unit, usize::from(*room), record);
     }
-    Ok(())
 }

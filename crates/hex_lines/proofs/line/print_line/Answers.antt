@@ -7,11 +7,9 @@ pub loop-byte-init : goal.loop-byte-init
 loop-byte-init c = shown_none _ _ _ c.requires
 
 pub loop-byte-preserved : goal.loop-byte-preserved
-loop-byte-preserved c = let p = c.put-end.ensures in
-    rw p.value
-    (shown_more c.loop-byte.invariant _ _ _ (omega arith) c.glyph.ensures c.glyph-in-loop-byte.ensures p.out_after)
+loop-byte-preserved c =
+    shown_more c.loop-byte.invariant _ _ _ _ (omega arith) c.glyph.ensures c.glyph-in-loop-byte.ensures c.put-end.ensures
 
 pub returns : goal.returns
-returns c = let p = c.put.ensures in
-    let all = shown_all c.loop-byte.invariant _ (omega arith) p.out_after in
-    record { value = rw p.value all.0; out_after = all.1 }
+returns c = let line = shown_all c.loop-byte.invariant _ _ (omega arith) c.put.ensures in
+    record { value = line.place; out_after = line.contents }

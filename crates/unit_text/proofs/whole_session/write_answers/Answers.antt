@@ -7,4 +7,4 @@ pub loop-n-init : goal.loop-n-init
 loop-n-init c = written_none _ _ _ c.requires c.new-pieces.ensures
 
 pub loop-n-preserved : goal.loop-n-preserved
-loop-n-preserved c = written_more c.loop-n.invariant c.in-Some.ensures _ c.copy_from_slice.ensures.after (omega arith)
+loop-n-preserved c = rw c.copy.ensures (written_more c.loop-n.invariant c.in-Some.ensures (omega arith))

@@ -1,25 +1,28 @@
 -- Every turn answers the next line of the chunk, in place where a byte is only collected; each kind of a flight by its own law.
 use native.Mathlib.Omega.{arith}
 use mathlib.Core.Path.{◌≡◌, refl, sym, ap, ◌∙◌}
-use mathlib.Core.List.{List, ◌++◌, []}
+use mathlib.Core.Bool.{true}
+use mathlib.Core.List.{List, ◌++◌, [], ◌∷◌}
 use Prim.Native.Nat.{ℕ, ◌+◌}
 use lib.ListN.{length, drop}
 use Rattle.base.specs.Reply.{Reply, accepted, replied}
 use Rattle.esc_records.specs.declared.record.Record.{Record}
-use Rattle.std.specs.Prelude.{Ok, Some, Option}
+use Rattle.esc_records.specs.declared.record.Record.TheVariants as kind
+use Rattle.std.specs.Prelude.{Ok, Some, Option, is_some}
 use Rattle.esc_kinds.specs.declared.opened.Opened.{Opened}
 use Rattle.esc_unit.specs.declared.unit.Unit.{Unit}
 use Rattle.hex_lines.specs.HeldLine.{held_characters}
 use Rattle.hex_lines.specs.Line.{read_line}
 use Rattle.hex_lines.specs.NextLine.{first_line}
 use Rattle.hex_lines.proofs.HeldLaws.{held-short}
-use Rattle.record_lines.specs.NextRecord.{record_by, RecordEnded}
+use Rattle.record_lines.specs.NextRecord.{admitted_by, RecordEnded}
 use Rattle.record_lines.specs.WireLine.{CollectedAt}
 use Rattle.unit_text.specs.Answering.{Answers, LinePut}
 use Rattle.unit_text.specs.Streams.{streamed}
 use Rattle.unit_text.proofs.AnswersLaws.{
   answers-refused,
   answers-entered,
+  answers-step,
   answers_next,
   answers-marked,
   answers-rejected,
@@ -37,16 +40,26 @@ use Rattle.unit_text.proofs.stream.Stream.feed.Goals.{
   In-Some-next_record,
   in-Some+in_default-collected_byte,
   in_default,
-  in_default-2-via-in-Some+in_default,
-  in_default-2-via-in_default,
 }
 use Rattle.unit_text.proofs.stream.Stream.feed.Goals as goal
 
+none_held : (held : List ℕ) → length held ≡ 0 → held ≡ []
+none_held [] e = refl
+none_held (c ∷ held) e = absurd (omega arith)
+
 -- a byte that was read from where its line stands
 module _ (c : In-Some-collected_byte) where
-  byte : CollectedAt (held_characters c.loop-used.line) c.in-Some.field-0.manager.parser (drop c.loop-used.used c.args.chunk.now)
+  byte : CollectedAt (length (held_characters c.loop-used.line)) true c.in-Some.field-0.manager.parser (drop c.loop-used.used c.args.chunk.now)
       c.in-Some-collected_byte.wire
-  byte = rw (c.in-Some-collected_byte.is, part_left _ c.loop-used.used) at c.collected_byte.ensures
+  byte = rw (c.in-Some-collected_byte.is, part_left _ c.loop-used.used, c.len.ensures) at c.collected_byte.ensures
+
+  none : held_characters c.loop-used.line ≡ []
+  none = none_held _ byte.none
+
+  taken_in_place : admitted_by (is_some c.loop-used.unit.opened)
+      (read_line (held_characters c.loop-used.line ++ first_line (drop c.loop-used.used c.args.chunk.now)))
+      ≡ accepted (kind.WireByte c.in-Some-collected_byte.wire.byte c.in-Some-collected_byte.wire.at_ms)
+  taken_in_place = rw (c.in-Some.is, none) byte.line.admitted
 
 -- what was only looked at is as it was
 found : {unit unit' : Unit} {o : Opened} → unit.opened ≡ Some o → unit' ≡ record { opened = Some o } → unit' ≡ unit
@@ -69,12 +82,12 @@ module _ (c : In-Some-next_record) where
   abbrev heard : Reply (List ℕ)
   heard = read_line (held_characters c.loop-used.line ++ first_line (drop c.loop-used.used c.args.chunk.now))
 
-  ended : RecordEnded (held_characters c.loop-used.line) (drop c.loop-used.used c.args.chunk.now) c.in-Some-next_record.ended
+  ended : RecordEnded (is_some was.opened) (held_characters c.loop-used.line) (drop c.loop-used.used c.args.chunk.now) c.in-Some-next_record.ended
       × (held_characters c.next_record.new.line ≡ [])
-  ended = rw (c.in-Some-next_record.is, part_left _ c.loop-used.used) at c.next_record.ensures
+  ended = rw (c.in-Some-next_record.is, part_left _ c.loop-used.used, c.is_some-opened.ensures) at c.next_record.ensures
 
-  stands : (r record' : Record) → c.in-Some-next_record.ended.record ≡ Ok record' → record' ≡ r → record_by heard ≡ accepted r
-  stands r record' e f = ended.0.stands ∙ ap replied e ∙ ap accepted f
+  stands : (r record' : Record) → c.in-Some-next_record.ended.record ≡ Ok record' → record' ≡ r → admitted_by (is_some was.opened) heard ≡ accepted r
+  stands r record' e f = ended.0.admitted ∙ ap replied e ∙ ap accepted f
 
   -- its answer is printed, by any arm
   answered : {unit' : Unit} {said : List ℕ} {written' : ℕ} {out' : List ℕ}
@@ -93,23 +106,20 @@ pub loop-used-preserved-in-Some-collected_byte : goal.loop-used-preserved-in-Som
 loop-used-preserved-in-Some-collected_byte c = let t = (goal.at.loop-used-preserved-in-Some-collected_byte c).In-Some-collected_byte in
     let l = c.loop-used in
     let h = byte t in
-    let left : List ℕ = drop l.used c.args.chunk.now in
-    let line : read_line (held_characters l.line ++ first_line left) ≡ read_line (first_line left) =
-    ap (λ (b : List ℕ). read_line (b ++ first_line left)) h.none in
-    rw (h.none, c.collected-manager.ensures, h.few, c.heard-manager.ensures)
+    rw (none t, c.collected-manager.ensures, h.few, c.heard-manager.ensures)
     (feeding-line l.invariant (omega (arith, l.invariant.long, c.if-out-written-ge-LONGEST_LINE.true)) 21
     (omega (arith, h.line.ends, h.line.long)) (omega (arith, h.line.ends)) _ _
-    (answers-collected l.unit c.in-Some.field-0 c.in-Some.is _ _ _ (ap record_by line ∙ h.line.stands) h.few) _ _
+    (answers-collected l.unit c.in-Some.field-0 c.in-Some.is _ _ _ (taken_in_place t) h.few) _ _
     c.print_flag-written.ensures c.print_flag-written.auto.out)
 
 pub loop-used-preserved-in-Err : goal.loop-used-preserved-in-Err
 loop-used-preserved-in-Err c = let t = (goal.at.loop-used-preserved-in-Err c).In-Some-next_record in
     answered t
-    (answers-refused (was t) (heard t) _ ((ended t).0.stands ∙ ap replied c.in-Err.is))
+    (answers-refused (was t) (heard t) _ ((ended t).0.admitted ∙ ap replied c.in-Err.is))
     c.print_refusal-written.ensures c.print_refusal-written.auto.out
 
-pub loop-used-preserved-in-NextRequest-1 : goal.loop-used-preserved-in-NextRequest-1
-loop-used-preserved-in-NextRequest-1 c = let t = (goal.at.loop-used-preserved-in-NextRequest-1 c).In-Some-next_record in
+pub loop-used-preserved-in-Some-NextRequest : goal.loop-used-preserved-in-Some-NextRequest
+loop-used-preserved-in-Some-NextRequest c = let t = (goal.at.loop-used-preserved-in-Some-NextRequest c).In-Some-next_record in
     let m = c.in-Some-NextRequest in
     answered t
     (answers_next (was t) m.field-0-0 m.is-0 (heard t) _ (stands t _ _ c.in-Ok.is m.is-1))
@@ -117,8 +127,8 @@ loop-used-preserved-in-NextRequest-1 c = let t = (goal.at.loop-used-preserved-in
     c.print_answer-written.ensures)
     c.print_answer-written.auto.out
 
-pub loop-used-preserved-in-MarkRequestQueued-1 : goal.loop-used-preserved-in-MarkRequestQueued-1
-loop-used-preserved-in-MarkRequestQueued-1 c = let t = (goal.at.loop-used-preserved-in-MarkRequestQueued-1 c).In-Some-next_record in
+pub loop-used-preserved-in-Some-MarkRequestQueued : goal.loop-used-preserved-in-Some-MarkRequestQueued
+loop-used-preserved-in-Some-MarkRequestQueued c = let t = (goal.at.loop-used-preserved-in-Some-MarkRequestQueued c).In-Some-next_record in
     let m = c.in-Some-MarkRequestQueued in
     rw c.mark_request_queued-marked.ensures
     (answered t
@@ -163,8 +173,8 @@ loop-used-preserved-in-Sample c = let t = (goal.at.loop-used-preserved-in-Sample
     c.print_answer-written-in-Sample.ensures)
     c.print_answer-written-in-Sample.auto.out)
 
-pub loop-used-preserved-in-PollTimeout-1 : goal.loop-used-preserved-in-PollTimeout-1
-loop-used-preserved-in-PollTimeout-1 c = let t = (goal.at.loop-used-preserved-in-PollTimeout-1 c).In-Some-next_record in
+pub loop-used-preserved-in-Some-PollTimeout : goal.loop-used-preserved-in-Some-PollTimeout
+loop-used-preserved-in-Some-PollTimeout c = let t = (goal.at.loop-used-preserved-in-Some-PollTimeout c).In-Some-next_record in
     let m = c.in-Some-PollTimeout in
     rw c.poll_timeout-polled.ensures
     (answered t
@@ -199,16 +209,21 @@ loop-used-preserved-in-Some-answer c = let t = (goal.at.loop-used-preserved-in-S
     c.print_answer-written-in-Some-answer.ensures)
     c.print_answer-written-in-Some-answer.auto.out)
 
+pub loop-used-preserved-in-Some-default : goal.loop-used-preserved-in-Some-default
+loop-used-preserved-in-Some-default c = let t = (goal.at.loop-used-preserved-in-Some-default c).In-Some-next_record in
+    let m = c.in-Some-default in
+    rw c.step-stepped.ensures
+    (answered t
+    (answers-step (was t) m.opened m.is-0 (heard t) _ _ (stands t _ _ c.in-Ok.is refl) refl)
+    (rw (c.encode-in-Some-default.ensures, c.step-stepped.ensures) at
+    c.print_answer-written-in-Some-default.ensures)
+    c.print_answer-written-in-Some-default.auto.out)
+
 pub loop-used-preserved : goal.loop-used-preserved
 loop-used-preserved c = let t = (goal.at.loop-used-preserved c).In-Some-next_record in
     let s = c.print_called-written in
-    let kept : c.in_default-2.unit ≡ was t =
-    elim c.in_default-2.branch [
-      | in_default-2-via-in-Some+in_default w ↦ found w.in_default-2.is-0 w.unit-is
-      | in_default-2-via-in_default w ↦ w.unit-is
-    ] in
     rw s.ensures.left
-    (answered t (answers-entered (was t) (heard t) _ _ (stands t _ _ c.in-Ok.is refl) (rw (← kept) (sym c.step-called.ensures))) s.ensures.printed s.auto.out)
+    (answered t (answers-entered (was t) (heard t) _ _ (stands t _ _ c.in-Ok.is refl) (sym c.step-called.ensures)) s.ensures.printed s.auto.out)
 
 pub returns-after-loop-used : goal.returns-after-loop-used
 returns-after-loop-used c = let f = fed-end c.loop-used.invariant (omega arith) in
