@@ -19,7 +19,9 @@ pub trait Body: Encode {
     ghost says: { (x : Self) → answer_bytes (answer x) ≡ 0x00 ∷ Self.bytes x };
 }
 
-// The bytes of an answer, told as what its variant holds where the caller knows the kind, so that no `Answer` is made first.
+// The bytes of an answer, told as what its variant holds where the caller knows the kind, so that no `Answer` is made first. It is
+// inlined, so that an answer is read where the call that made it put it.
+#[inline(always)]
 pub fn encode<T: Body>(body: T) -> AnswerBytes
     ensures { encoded_of result ≡ answer_bytes (T.answer body) }
 {

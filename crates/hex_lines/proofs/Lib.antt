@@ -2,6 +2,7 @@
 -- read again (to RoundTrip); as it was read before capitals were digits, and that none is printed; a line that is held; the first line of a chunk.
 pub mod SmallLaws
 pub mod DigitLaws
+pub mod TableLaws
 pub mod DigitCases
 pub mod TypedDigits
 pub mod Unended

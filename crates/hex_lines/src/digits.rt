@@ -2,8 +2,6 @@
 ghost use Rattle.std.specs.Prelude.{◌≡◌, ◌<◌};
 ghost use Rattle.hex_lines.specs.Digit.{value_of, is_digit, pair_of, glyph_of, DigitTabled};
 
-use std::array;
-
 // The value of each character. A line is read by this table: it is made once, before a loop, and lent.
 #[derive(Clone, Copy)]
 pub struct Digits {
@@ -12,11 +10,14 @@ pub struct Digits {
 }
 
 impl Digits {
-    // The table.
+    // The table. No character before 0 or behind f is a digit, so these are passed over: it is made for each piece of a session, however
+    // short.
     pub fn new() -> Self {
-        Digits {
-            values: array::from_fn(|character| value_of(character as u8)),
+        let mut values = [None; 256];
+        for character in b'0'..b'g' {
+            values[usize::from(character)] = value_of(character);
         }
+        Digits { values }
     }
 
     // The byte of two digits.
