@@ -61,6 +61,11 @@ four_counts (a ∷ b ∷ c ∷ []) e = absurd (omega arith)
 four_counts (a ∷ b ∷ c ∷ d ∷ []) e = refl
 four_counts (a ∷ b ∷ c ∷ d ∷ f ∷ counts) e = absurd (omega arith)
 
+-- 05 and four counts, whatever list they are told as
+pub timeout-length : (counts : List ℕ) → length (failure_bytes (failure.Timeout counts)) ≡ 5
+unfolding failure_bytes
+timeout-length counts = refl
+
 failure-at-most : (f : EscIdleQualificationFailure) → length (failure_bytes f) ≤ 5
 unfolding failure_bytes bytes_of
 failure-at-most failure.InvalidConfig = omega arith

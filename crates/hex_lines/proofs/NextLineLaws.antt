@@ -1,5 +1,5 @@
 -- The next line, read from the chunk where it stands or as it is held.
-use Rattle.std.proofs.Common.{◌≡◌, ℕ, ◌+◌, ◌*◌, ◌≤◌, ◌<◌, List, ◌++◌, Result, length, get_or, take, ap, ◌∙◌, arith, length-append}
+use Rattle.std.proofs.Common.{◌≡◌, ℕ, ◌+◌, ◌*◌, ◌≤◌, ◌<◌, List, [], ◌++◌, Result, length, get_or, take, refl, ap, ◌∙◌, arith, length-append}
 use Rattle.std.proofs.lemmas.List.{length-take-le}
 use Rattle.std.specs.Borrow.{Bor}
 use Rattle.base.specs.Reply.{accepted}
@@ -22,6 +22,16 @@ read_in_place {chunk} {bytes} {rest} {n} k fits room some lf =
       long = rw first even;
       fits = fits;
       read = rw first (read_whole k.front (omega arith) k.digits (omega arith) ∙ ap accepted k.read);
+    }
+
+-- a line is read where it stands, if nothing of it is held
+pub ended-whole : {begun chunk : List ℕ} {n : ℕ} → FirstEnds chunk n → begun ≡ []
+    → (read : Result (Bor (List ℕ)) Refusal) → line_read read ≡ read_line (take n chunk) → LineEnded begun chunk (record { read = read; behind = n + 1 })
+ended-whole first none read e =
+    record {
+      ends = omega (arith, first.length_is, first.within);
+      behind = omega (arith, first.length_is);
+      read = e ∙ rw (none, first.front) refl;
     }
 
 -- a line is read as it is held

@@ -47,16 +47,17 @@ impl HeldLine {
         &self.characters[..self.count]
     }
 
-    // Holds more of the line, as much as there is room for. It stores one character at a time: for a copy of any length the compiler calls
-    // `memmove`, which an archive for C then asks for.
+    // Holds more of the line, as much as there is room for. The characters are stored one by one: for `copy_from_slice` of any length the compiler
+    // calls `memmove`, which an archive for C then asks for.
     pub(crate) fn hold(&mut self, more: &[u8])
         ensures { held_characters self.new ≡ take most_held (held_characters self.old ++ more.now) }
     {
-        let n = more.len().min(HELD - self.count);
-        for &character in &more[..n] {
-            self.characters[self.count] = character;
-            self.count += 1;
+        let from = self.count;
+        let n = more.len().min(HELD - from);
+        for (i, &character) in more[..n].iter().enumerate() {
+            self.characters[from + i] = character;
         }
+        self.count = from + n;
     }
 
     // Begins anew.

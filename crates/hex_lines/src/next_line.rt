@@ -38,19 +38,26 @@ pub fn next_line<'bytes>(
         line.hold(chunk);
         return None;
     };
+    let behind = end + 1;
+    // What lies in the chunk as a whole need not be held.
+    if line.is_empty() {
+        let read = read_line(digits, &chunk[..end], bytes);
+        return Some(EndedLine { read, behind });
+    }
     line.hold(&chunk[..end]);
     let read = read_line(digits, line.characters(), bytes);
     line.clear();
-    Some(EndedLine {
-        read,
-        behind: end + 1,
-    })
+    Some(EndedLine { read, behind })
 }
 
 // How many bytes the line at the front of a chunk stands for, read where it stands: its digits, two by two, and LF behind them.
 fn line_in_place(digits: &Digits, chunk: &[u8], bytes: &mut [u8; LONGEST_RECORD]) -> Option<usize>
     ensures { IfSome result (λ n. ReadInPlace chunk.now n bytes.new) }
 {
+    // An empty line has none.
+    if let [LINE_END, ..] = chunk {
+        return Some(0);
+    }
     let (n, [LINE_END, ..]) = read_pairs(digits, chunk, bytes) else {
         return None;
     };

@@ -3,8 +3,8 @@ use Rattle.std.proofs.Common.{◌≡◌, ◌+◌, ◌++◌, take}
 use Rattle.hex_lines.specs.HeldLine.{held_characters}
 use Rattle.hex_lines.proofs.held_line.HeldLine.hold.Given as goal
 
-abbrev pub invariant-loop-character : goal.invariant-loop-character
-invariant-loop-character l = record {
-  count : l.self.count ≡ l.initial.self.count + l.character-index;
-  held : held_characters l.self ≡ held_characters l.initial.self ++ take l.character-index l.more;
+abbrev pub invariant-loop-i : goal.invariant-loop-i
+invariant-loop-i l = record {
+  count : l.self.count ≡ l.from;
+  held : take (l.from + l.i) l.self.characters ≡ held_characters l.initial.self ++ take l.i l.more;
 }
