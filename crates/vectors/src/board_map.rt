@@ -41,23 +41,15 @@ fn both_ways(rt: &impl Print, map: BoardMap) {
 }
 
 fn motor_of_lane(rt: &impl Print, map: BoardMap, lane: u8) {
-    match map.motor_of_lane(lane) {
-        Ok(motor) => {
-            let _ = print!(rt; " {}", u8::from(motor));
-        }
-        Err(_) => {
-            let _ = print!(rt; " -");
-        }
-    }
+    let _ = match map.motor_of_lane(lane) {
+        Ok(motor) => print!(rt; " {}", u8::from(motor)),
+        Err(_) => print!(rt; " -"),
+    };
 }
 
 fn output_of_motor(rt: &impl Print, map: BoardMap, motor: u8) {
-    match map.output_of_motor(motor) {
-        Ok(output) => {
-            let _ = print!(rt; " {}", output.index());
-        }
-        Err(_) => {
-            let _ = print!(rt; " -");
-        }
-    }
+    let _ = match map.output_of_motor(motor) {
+        Ok(output) => print!(rt; " {}", output.index()),
+        Err(_) => print!(rt; " -"),
+    };
 }

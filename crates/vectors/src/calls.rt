@@ -13,14 +13,10 @@ pub fn call(rt: &impl Print, unit: Unit, room: usize, record: &[u8]) -> Unit {
     let out = &mut buffer[..room.min(LONGEST_ANSWER)];
     let called = unit.call(record, out);
     let _ = print!(rt; "call {}: ", Hex(record));
-    match called.reply {
-        Ok(n) => {
-            let _ = print!(rt; "{}", Hex(front(out, n)));
-        }
-        Err(refusal) => {
-            let _ = print!(rt; "{}", Refused(refusal));
-        }
-    }
+    let _ = match called.reply {
+        Ok(n) => print!(rt; "{}", Hex(front(out, n))),
+        Err(refusal) => print!(rt; "{}", Refused(refusal)),
+    };
     if out.len() < LONGEST_ANSWER {
         let _ = print!(rt; ", room {}", Hex(out));
     }

@@ -45,12 +45,8 @@ pub fn run(rt: &impl Print) {
 }
 
 fn vector(rt: &impl Print, name: &str, capture: &[u8]) {
-    match find_frame(capture) {
-        Some(start) => {
-            let _ = println!(rt; "capture {name}: {start}");
-        }
-        None => {
-            let _ = println!(rt; "capture {name}: none");
-        }
-    }
+    let _ = match find_frame(capture) {
+        Some(start) => println!(rt; "capture {name}: {start}"),
+        None => println!(rt; "capture {name}: none"),
+    };
 }

@@ -42,12 +42,8 @@ fn vector(rt: &impl Print, name: &str, frame: &[u8]) {
 
 fn both_ways(rt: &impl Print, telemetry: EscTelemetry) {
     let mut frame = [0u8; 10];
-    match encode(telemetry, &mut frame) {
-        Ok(()) => {
-            let _ = println!(rt; "{}, written {}", Fields(telemetry), Hex(&frame));
-        }
-        Err(refusal) => {
-            let _ = println!(rt; "{}", Refused(refusal));
-        }
-    }
+    let _ = match encode(telemetry, &mut frame) {
+        Ok(()) => println!(rt; "{}, written {}", Fields(telemetry), Hex(&frame)),
+        Err(refusal) => println!(rt; "{}", Refused(refusal)),
+    };
 }

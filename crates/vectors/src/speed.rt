@@ -17,12 +17,8 @@ pub fn run(rt: &impl Print) {
 }
 
 fn vector(rt: &impl Print, erpm_div100: u16, magnets: u8) {
-    match motor_speed(erpm_div100, magnets) {
-        Ok(rpm) => {
-            let _ = println!(rt; "speed {erpm_div100} {magnets} {rpm}");
-        }
-        Err(refusal) => {
-            let _ = println!(rt; "speed {} {erpm_div100} {magnets}", Refused(refusal));
-        }
-    }
+    let _ = match motor_speed(erpm_div100, magnets) {
+        Ok(rpm) => println!(rt; "speed {erpm_div100} {magnets} {rpm}"),
+        Err(refusal) => println!(rt; "speed {} {erpm_div100} {magnets}", Refused(refusal)),
+    };
 }

@@ -2,9 +2,10 @@
 use native.Mathlib.Omega.{arith}
 use mathlib.Core.Path.{◌≡◌, refl, sym, ap, ◌∙◌}
 use mathlib.Core.Bool.{true}
-use mathlib.Core.List.{List, ◌++◌, [], ◌∷◌}
+use mathlib.Core.List.{List, ◌++◌, []}
 use Prim.Native.Nat.{ℕ, ◌+◌}
 use lib.ListN.{length, drop}
+use Rattle.std.proofs.lemmas.List.{nil_from_length}
 use Rattle.base.specs.Reply.{Reply, accepted, replied}
 use Rattle.esc_records.specs.declared.record.Record.{Record}
 use Rattle.esc_records.specs.declared.record.Record.TheVariants as kind
@@ -43,10 +44,6 @@ use Rattle.unit_text.proofs.stream.Stream.feed.Goals.{
 }
 use Rattle.unit_text.proofs.stream.Stream.feed.Goals as goal
 
-none_held : (held : List ℕ) → length held ≡ 0 → held ≡ []
-none_held [] e = refl
-none_held (c ∷ held) e = absurd (omega arith)
-
 -- a byte that was read from where its line stands
 module _ (c : In-Some-collected_byte) where
   byte : CollectedAt (length (held_characters c.loop-used.line)) true c.in-Some.field-0.manager.parser (drop c.loop-used.used c.args.chunk.now)
@@ -54,7 +51,7 @@ module _ (c : In-Some-collected_byte) where
   byte = rw (c.in-Some-collected_byte.is, part_left _ c.loop-used.used, c.len.ensures) at c.collected_byte.ensures
 
   none : held_characters c.loop-used.line ≡ []
-  none = none_held _ byte.none
+  none = nil_from_length _ byte.none
 
   taken_in_place : admitted_by (is_some c.loop-used.unit.opened)
       (read_line (held_characters c.loop-used.line ++ first_line (drop c.loop-used.used c.args.chunk.now)))
