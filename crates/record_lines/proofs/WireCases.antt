@@ -12,4 +12,7 @@ use Rattle.record_lines.specs.WireLine.{WireAt}
 pub wire-cases : WireAt (codes "05E7000000000000ABD6\n06\n") (record { byte = 0xe7; at_ms = 0xabd6 })
     × WireAt (codes "05eF00fF0000Aa00aBd9\n") (record { byte = 0xef; at_ms = 0x00ff0000aa00abd9 })
 unfolding first_line read_line all_digits pairs digit_of small small_digit number_at record_of read_record admitted_of
-wire-cases = (record { long = omega arith; ends = refl; admitted = refl }, record { long = omega arith; ends = refl; admitted = refl })
+wire-cases = (
+  record { long = omega arith; ends = refl; stands = refl; admitted = refl },
+  record { long = omega arith; ends = refl; stands = refl; admitted = refl },
+)

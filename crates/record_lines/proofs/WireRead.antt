@@ -11,7 +11,7 @@ use Rattle.esc_records.proofs.RecordLaws.{read-accepted}
 use Rattle.hex_lines.specs.Digit.{small_digit, small, digit_of, pair_of}
 use Rattle.hex_lines.specs.Line.{line_end, all_digits, pairs}
 use Rattle.hex_lines.specs.NextLine.{first_line}
-use Rattle.record_lines.specs.NextRecord.{admitted_by}
+use Rattle.record_lines.specs.NextRecord.{record_by, admitted_by}
 use Rattle.record_lines.specs.WireLine.{WireAt, NumberRead}
 use Rattle.hex_lines.proofs.FirstLine.{first_before}
 use Rattle.hex_lines.proofs.LineLaws.{read_whole}
@@ -59,10 +59,12 @@ wire_line_read (x ∷ y ∷ c ∷ d ∷ more) h z f v p time behind l e b lf t n
     let time-read : number_at 8 (0x05 ∷ v ∷ pairs time) 2 ≡ t = number-behind 8 0x05 v (pairs time) ∙ sym n.value in
     let record-read : read_record (pairs line) ≡ accepted (kind.WireByte v t) =
     rw spelt (wire-record (0x05 ∷ v ∷ pairs time) (omega (arith, pairs-length time 8 l)) refl ∙ rw time-read) in
+    let read = read_whole line (omega arith) digits (omega arith) in
     record {
       long = omega (arith, ap length e, length-append time behind);
       ends = rw first (omega arith);
-      admitted = rw first (ap (admitted_by true) (read_whole line (omega arith) digits (omega arith)) ∙ ap (admitted_on true) record-read);
+      stands = rw first (ap record_by read ∙ record-read);
+      admitted = rw first (ap (admitted_by true) read ∙ ap (admitted_on true) record-read);
     }
 
 pub wire_read : (chunk : List ℕ) → 4 ≤ length chunk → get_or chunk 0 0 ≡ 0x30 → get_or chunk 1 0 ≡ 0x35

@@ -1,9 +1,11 @@
 // A line with a wire byte, as most lines of a session are: it is read straight into its numbers.
 ghost use Rattle.std.specs.Prelude.{IfSome};
-ghost use Rattle.record_lines.specs.WireLine.{WireAt, NumberRead, CollectedAt};
+ghost use Rattle.hex_lines.specs.HeldLine.{held_characters};
+ghost use Rattle.record_lines.specs.WireLine.{WireAt, NumberRead, CollectedAt, CollectedIfOpened};
 
 use blheli_telemetry::StreamParser;
 use hex_lines::digits::Digits;
+use hex_lines::held_line::HeldLine;
 use hex_lines::line::LINE_END;
 
 // How many characters the time has.
@@ -19,16 +21,29 @@ pub struct WireByte {
     pub at_ms: u64,
 }
 
-// The byte at the front of a chunk, where it is a line of its own, of which nothing is held, and the parser of an opened unit
-// only collects it: it then moves nothing but the parser and the fault's quiet time.
+// The byte at the front of a chunk, where it is a line of its own and the parser only collects it: it then moves
+// nothing but the parser and the fault's quiet time.
 pub fn collected_byte(
+    digits: &Digits,
+    chunk: &[u8],
+    line: &HeldLine,
+    parser: StreamParser,
+) -> Option<WireByte>
+    ensures { IfSome result (CollectedAt (held_characters line.now) parser chunk.now) }
+{
+    collected_if_opened(digits, chunk, line.len(), true, parser)
+}
+
+// The same, where so many characters of a line are held, of a unit that was opened, or was not, and its parser: one that was not
+// has no byte.
+pub fn collected_if_opened(
     digits: &Digits,
     chunk: &[u8],
     held: usize,
     opened: bool,
     parser: StreamParser,
 ) -> Option<WireByte>
-    ensures { IfSome result (CollectedAt held opened parser chunk.now) }
+    ensures { IfSome result (CollectedIfOpened held opened parser chunk.now) }
 {
     if held == 0 && opened && parser.collects() {
         wire_line(digits, chunk)
@@ -67,11 +82,18 @@ fn number(digits: &Digits, text: &[u8; TIME]) -> Option<u64>
 #[cfg(test)]
 mod tests {
     use super::*;
+    use crate::next_record::next_record;
     use std::test::Fail;
 
     // The byte and its time, of a chunk in which a line begins.
     fn read(chunk: &[u8]) -> Option<(u8, u64)> {
-        let wire = collected_byte(&Digits::new(), chunk, 0, true, StreamParser::new())?;
+        let wire = collected_if_opened(&Digits::new(), chunk, 0, true, StreamParser::new())?;
+        Some((wire.byte, wire.at_ms))
+    }
+
+    // The same, behind what is held of a line.
+    fn read_behind(line: &HeldLine, chunk: &[u8]) -> Option<(u8, u64)> {
+        let wire = collected_byte(&Digits::new(), chunk, line, StreamParser::new())?;
         Some((wire.byte, wire.at_ms))
     }
 
@@ -83,6 +105,17 @@ mod tests {
             read(b"05eF00fF0000Aa00aBd9\n"),
             Some((0xef, 0x00ff_0000_aa00_abd9))
         );
+        Ok(())
+    }
+
+    // The line goes on where one is begun, so no byte is read from the middle of it.
+    #[test]
+    fn no_byte_behind_a_held_line(rt: HostRuntime) -> Result<(), Fail> {
+        let chunk = b"05e7000000000000abd6\n06\n";
+        let mut line = HeldLine::new();
+        assert_eq!(rt; read_behind(&line, chunk), Some((0xe7, 0xabd6)));
+        assert!(rt; next_record(&Digits::new(), b"0", &mut line).is_none());
+        assert_eq!(rt; read_behind(&line, chunk), None);
         Ok(())
     }
 }

@@ -17,7 +17,7 @@ use Rattle.unit_text.specs.Session.{answer_on, answer_line, unit_after, line_tex
 use Rattle.unit_text.specs.Stream.{Streamed, after, printed, taken, feed_of, fed_output, longest_line}
 use Rattle.hex_lines.specs.NextLine.{first_line}
 use Rattle.unit_text.specs.Answering.{Answers, LinePut}
-use Rattle.record_lines.specs.NextRecord.{RecordEnded}
+use Rattle.record_lines.specs.NextRecord.{AdmittedEnded}
 use Rattle.record_lines.specs.declared.next_record.EndedRecord.{EndedRecord}
 use Rattle.base.proofs.PutLaws.{overwrite-none}
 use Rattle.hex_lines.proofs.Unended.{Unended}
@@ -195,7 +195,7 @@ module _ {s : Streamed} {chunk out₀ : List ℕ} {unit : Unit} {begun out : Lis
 pub feeding-record : {s : Streamed} {chunk out₀ : List ℕ} {unit : Unit} {begun out : List ℕ} {used written : ℕ} {opened : Bool}
     {ended : EndedRecord} {unit' : Unit} {said : List ℕ} {written' : ℕ} {out' : List ℕ}
     → Feeding s chunk out₀ unit begun out used written → longest_line ≤ length out₀ - written
-    → RecordEnded opened begun (drop used chunk) ended
+    → AdmittedEnded opened begun (drop used chunk) ended
     → Answers unit (read_line (begun ++ first_line (drop used chunk))) unit' said → LinePut said written out written' out'
     → length out' ≡ length out
     → Feeding s chunk out₀ unit' [] out' (used + ended.behind) written'

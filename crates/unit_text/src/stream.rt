@@ -16,8 +16,8 @@ use esc_unit::Unit;
 use hex_lines::digits::Digits;
 use hex_lines::held_line::HeldLine;
 use hex_lines::line::LINE_END;
-use record_lines::next_record::next_record;
-use record_lines::wire_line::{WIRE_LINE, collected_byte};
+use record_lines::next_record::next_admitted;
+use record_lines::wire_line::{WIRE_LINE, collected_if_opened};
 
 // As much as any printed line takes.
 pub const LONGEST_LINE: usize = 87;
@@ -64,7 +64,7 @@ impl Stream {
             // A byte that the parser only collects stands in its line, and is taken from there.
             if let Some(Opened { manager, .. }) = &mut unit.opened {
                 let parser = manager.parser;
-                if let Some(wire) = collected_byte(
+                if let Some(wire) = collected_if_opened(
                     &digits,
                     &chunk[used..],
                     line.len(),
@@ -80,7 +80,7 @@ impl Stream {
             }
             // Else the next line is read, or what the chunk has of it is held for the next chunk.
             let opened = unit.opened.is_some();
-            let Some(ended) = next_record(&digits, &chunk[used..], &mut line, opened) else {
+            let Some(ended) = next_admitted(&digits, &chunk[used..], &mut line, opened) else {
                 used = chunk.len();
                 break;
             };

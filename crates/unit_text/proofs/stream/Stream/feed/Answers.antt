@@ -16,8 +16,8 @@ use Rattle.hex_lines.specs.HeldLine.{held_characters}
 use Rattle.hex_lines.specs.Line.{read_line}
 use Rattle.hex_lines.specs.NextLine.{first_line}
 use Rattle.hex_lines.proofs.HeldLaws.{held-short}
-use Rattle.record_lines.specs.NextRecord.{admitted_by, RecordEnded}
-use Rattle.record_lines.specs.WireLine.{CollectedAt}
+use Rattle.record_lines.specs.NextRecord.{admitted_by, AdmittedEnded}
+use Rattle.record_lines.specs.WireLine.{CollectedIfOpened}
 use Rattle.unit_text.specs.Answering.{Answers, LinePut}
 use Rattle.unit_text.specs.Streams.{streamed}
 use Rattle.unit_text.proofs.AnswersLaws.{
@@ -36,26 +36,26 @@ use Rattle.unit_text.proofs.AnswersLaws.{
 }
 use Rattle.unit_text.proofs.Feeding.{Feeding, feeding-none, part_left, fed-stop, fed-end, feeding-open, feeding-line, feeding-record}
 use Rattle.unit_text.proofs.stream.Stream.feed.Goals.{
-  In-Some-collected_byte,
-  In_default-next_record,
-  In-Some-next_record,
-  in-Some+in_default-collected_byte,
+  In-Some-collected_if_opened,
+  In_default-next_admitted,
+  In-Some-next_admitted,
+  in-Some+in_default-collected_if_opened,
   in_default,
 }
 use Rattle.unit_text.proofs.stream.Stream.feed.Goals as goal
 
 -- a byte that was read from where its line stands
-module _ (c : In-Some-collected_byte) where
-  byte : CollectedAt (length (held_characters c.loop-used.line)) true c.in-Some.field-0.manager.parser (drop c.loop-used.used c.args.chunk.now)
-      c.in-Some-collected_byte.wire
-  byte = rw (c.in-Some-collected_byte.is, part_left _ c.loop-used.used, c.len.ensures) at c.collected_byte.ensures
+module _ (c : In-Some-collected_if_opened) where
+  byte : CollectedIfOpened (length (held_characters c.loop-used.line)) true c.in-Some.field-0.manager.parser (drop c.loop-used.used c.args.chunk.now)
+      c.in-Some-collected_if_opened.wire
+  byte = rw (c.in-Some-collected_if_opened.is, part_left _ c.loop-used.used, c.len.ensures) at c.collected_if_opened.ensures
 
   none : held_characters c.loop-used.line ≡ []
   none = nil_from_length _ byte.none
 
   taken_in_place : admitted_by (is_some c.loop-used.unit.opened)
       (read_line (held_characters c.loop-used.line ++ first_line (drop c.loop-used.used c.args.chunk.now)))
-      ≡ accepted (kind.WireByte c.in-Some-collected_byte.wire.byte c.in-Some-collected_byte.wire.at_ms)
+      ≡ accepted (kind.WireByte c.in-Some-collected_if_opened.wire.byte c.in-Some-collected_if_opened.wire.at_ms)
   taken_in_place = rw (c.in-Some.is, none) byte.line.admitted
 
 -- what was only looked at is as it was
@@ -63,34 +63,34 @@ found : {unit unit' : Unit} {o : Opened} → unit.opened ≡ Some o → unit' �
 found is e = e ∙ ap (λ (o : Option Opened). record { opened = o }) (sym is)
 
 -- a line that goes on behind the chunk
-module _ (c : In_default-next_record) where
+module _ (c : In_default-next_admitted) where
   left-as-found : c.match-unit.unit ≡ c.loop-used.unit
-  left-as-found = elim c.match-unit.branch [ in-Some+in_default-collected_byte w ↦ found w.in-Some.is w.unit-is | in_default w ↦ w.unit-is ]
+  left-as-found = elim c.match-unit.branch [ in-Some+in_default-collected_if_opened w ↦ found w.in-Some.is w.unit-is | in_default w ↦ w.unit-is ]
 
 -- a line that LF ends
-module _ (c : In-Some-next_record) where
+module _ (c : In-Some-next_admitted) where
   -- the unit before the line, and the line
   abbrev was : Unit
   was = c.match-unit.unit
 
   was-found : was ≡ c.loop-used.unit
-  was-found = elim c.match-unit.branch [ in-Some+in_default-collected_byte w ↦ found w.in-Some.is w.unit-is | in_default w ↦ w.unit-is ]
+  was-found = elim c.match-unit.branch [ in-Some+in_default-collected_if_opened w ↦ found w.in-Some.is w.unit-is | in_default w ↦ w.unit-is ]
 
   abbrev heard : Reply (List ℕ)
   heard = read_line (held_characters c.loop-used.line ++ first_line (drop c.loop-used.used c.args.chunk.now))
 
-  ended : RecordEnded (is_some was.opened) (held_characters c.loop-used.line) (drop c.loop-used.used c.args.chunk.now) c.in-Some-next_record.ended
-      × (held_characters c.next_record.new.line ≡ [])
-  ended = rw (c.in-Some-next_record.is, part_left _ c.loop-used.used, c.is_some-opened.ensures) at c.next_record.ensures
+  ended : AdmittedEnded (is_some was.opened) (held_characters c.loop-used.line) (drop c.loop-used.used c.args.chunk.now) c.in-Some-next_admitted.ended
+      × (held_characters c.next_admitted.new.line ≡ [])
+  ended = rw (c.in-Some-next_admitted.is, part_left _ c.loop-used.used, c.is_some-opened.ensures) at c.next_admitted.ensures
 
-  stands : (r record' : Record) → c.in-Some-next_record.ended.record ≡ Ok record' → record' ≡ r → admitted_by (is_some was.opened) heard ≡ accepted r
+  stands : (r record' : Record) → c.in-Some-next_admitted.ended.record ≡ Ok record' → record' ≡ r → admitted_by (is_some was.opened) heard ≡ accepted r
   stands r record' e f = ended.0.admitted ∙ ap replied e ∙ ap accepted f
 
   -- its answer is printed, by any arm
   answered : {unit' : Unit} {said : List ℕ} {written' : ℕ} {out' : List ℕ}
       → Answers was heard unit' said → LinePut said c.loop-used.written c.loop-used.out written' out' → length out' ≡ length c.loop-used.out
       → Feeding (streamed c.args.self) c.args.chunk.now c.args.out.now unit'
-      (held_characters c.next_record.new.line) out' (c.loop-used.used + c.in-Some-next_record.ended.behind) written'
+      (held_characters c.next_admitted.new.line) out' (c.loop-used.used + c.in-Some-next_admitted.ended.behind) written'
   answered answers printed kept =
       rw ended.1
       (feeding-record c.loop-used.invariant (omega (arith, c.loop-used.invariant.long, c.if-out-written-ge-LONGEST_LINE.true)) ended.0 (rw was-found at answers)
@@ -99,8 +99,8 @@ module _ (c : In-Some-next_record) where
 pub loop-used-init : goal.loop-used-init
 loop-used-init c = feeding-none _ _ _ _ (held-short c.args.self.line)
 
-pub loop-used-preserved-in-Some-collected_byte : goal.loop-used-preserved-in-Some-collected_byte
-loop-used-preserved-in-Some-collected_byte c = let t = (goal.at.loop-used-preserved-in-Some-collected_byte c).In-Some-collected_byte in
+pub loop-used-preserved-in-Some-collected_if_opened : goal.loop-used-preserved-in-Some-collected_if_opened
+loop-used-preserved-in-Some-collected_if_opened c = let t = (goal.at.loop-used-preserved-in-Some-collected_if_opened c).In-Some-collected_if_opened in
     let l = c.loop-used in
     let h = byte t in
     rw (none t, c.collected-manager.ensures, h.few, c.heard-manager.ensures)
@@ -110,13 +110,13 @@ loop-used-preserved-in-Some-collected_byte c = let t = (goal.at.loop-used-preser
     c.print_flag-written.ensures c.print_flag-written.auto.out)
 
 pub loop-used-preserved-in-Err : goal.loop-used-preserved-in-Err
-loop-used-preserved-in-Err c = let t = (goal.at.loop-used-preserved-in-Err c).In-Some-next_record in
+loop-used-preserved-in-Err c = let t = (goal.at.loop-used-preserved-in-Err c).In-Some-next_admitted in
     answered t
     (answers-refused (was t) (heard t) _ ((ended t).0.admitted ∙ ap replied c.in-Err.is))
     c.print_refusal-written.ensures c.print_refusal-written.auto.out
 
 pub loop-used-preserved-in-Some-NextRequest : goal.loop-used-preserved-in-Some-NextRequest
-loop-used-preserved-in-Some-NextRequest c = let t = (goal.at.loop-used-preserved-in-Some-NextRequest c).In-Some-next_record in
+loop-used-preserved-in-Some-NextRequest c = let t = (goal.at.loop-used-preserved-in-Some-NextRequest c).In-Some-next_admitted in
     let m = c.in-Some-NextRequest in
     answered t
     (answers_next (was t) m.field-0-0 m.is-0 (heard t) _ (stands t _ _ c.in-Ok.is m.is-1))
@@ -125,7 +125,7 @@ loop-used-preserved-in-Some-NextRequest c = let t = (goal.at.loop-used-preserved
     c.print_answer-written.auto.out
 
 pub loop-used-preserved-in-Some-MarkRequestQueued : goal.loop-used-preserved-in-Some-MarkRequestQueued
-loop-used-preserved-in-Some-MarkRequestQueued c = let t = (goal.at.loop-used-preserved-in-Some-MarkRequestQueued c).In-Some-next_record in
+loop-used-preserved-in-Some-MarkRequestQueued c = let t = (goal.at.loop-used-preserved-in-Some-MarkRequestQueued c).In-Some-next_admitted in
     let m = c.in-Some-MarkRequestQueued in
     rw c.mark_request_queued-marked.ensures
     (answered t
@@ -134,7 +134,7 @@ loop-used-preserved-in-Some-MarkRequestQueued c = let t = (goal.at.loop-used-pre
     c.print_flag-written-in-Some-MarkRequestQueued.auto.out)
 
 pub loop-used-preserved-in-Rejected : goal.loop-used-preserved-in-Rejected
-loop-used-preserved-in-Rejected c = let t = (goal.at.loop-used-preserved-in-Rejected c).In-Some-next_record in
+loop-used-preserved-in-Rejected c = let t = (goal.at.loop-used-preserved-in-Rejected c).In-Some-next_admitted in
     let m = c.in-Some-ActuatorAck in
     rw c.on_actuator_ack-acked.ensures
     (answered t
@@ -145,7 +145,7 @@ loop-used-preserved-in-Rejected c = let t = (goal.at.loop-used-preserved-in-Reje
     c.print_flag-written-in-Rejected.auto.out)
 
 pub loop-used-preserved-in-Accepted : goal.loop-used-preserved-in-Accepted
-loop-used-preserved-in-Accepted c = let t = (goal.at.loop-used-preserved-in-Accepted c).In-Some-next_record in
+loop-used-preserved-in-Accepted c = let t = (goal.at.loop-used-preserved-in-Accepted c).In-Some-next_admitted in
     let m = c.in-Some-ActuatorAck in
     rw c.on_actuator_ack-acked.ensures
     (answered t
@@ -156,7 +156,7 @@ loop-used-preserved-in-Accepted c = let t = (goal.at.loop-used-preserved-in-Acce
     c.print_flag-written-in-Accepted.auto.out)
 
 pub loop-used-preserved-in-Sample : goal.loop-used-preserved-in-Sample
-loop-used-preserved-in-Sample c = let t = (goal.at.loop-used-preserved-in-Sample c).In-Some-next_record in
+loop-used-preserved-in-Sample c = let t = (goal.at.loop-used-preserved-in-Sample c).In-Some-next_admitted in
     let m = c.in-Some-ActuatorAck in
     rw (
       c.on_actuator_ack-acked.ensures,
@@ -171,7 +171,7 @@ loop-used-preserved-in-Sample c = let t = (goal.at.loop-used-preserved-in-Sample
     c.print_answer-written-in-Sample.auto.out)
 
 pub loop-used-preserved-in-Some-PollTimeout : goal.loop-used-preserved-in-Some-PollTimeout
-loop-used-preserved-in-Some-PollTimeout c = let t = (goal.at.loop-used-preserved-in-Some-PollTimeout c).In-Some-next_record in
+loop-used-preserved-in-Some-PollTimeout c = let t = (goal.at.loop-used-preserved-in-Some-PollTimeout c).In-Some-next_admitted in
     let m = c.in-Some-PollTimeout in
     rw c.poll_timeout-polled.ensures
     (answered t
@@ -181,7 +181,7 @@ loop-used-preserved-in-Some-PollTimeout c = let t = (goal.at.loop-used-preserved
     c.print_answer-written-in-Some-PollTimeout.auto.out)
 
 pub loop-used-preserved-in-None : goal.loop-used-preserved-in-None
-loop-used-preserved-in-None c = let t = (goal.at.loop-used-preserved-in-None c).In-Some-next_record in
+loop-used-preserved-in-None c = let t = (goal.at.loop-used-preserved-in-None c).In-Some-next_admitted in
     let m = c.in-Some-WireByte in
     rw c.push_wire_byte-received.ensures
     (answered t
@@ -192,7 +192,7 @@ loop-used-preserved-in-None c = let t = (goal.at.loop-used-preserved-in-None c).
     c.print_flag-written-in-None.auto.out)
 
 pub loop-used-preserved-in-Some-answer : goal.loop-used-preserved-in-Some-answer
-loop-used-preserved-in-Some-answer c = let t = (goal.at.loop-used-preserved-in-Some-answer c).In-Some-next_record in
+loop-used-preserved-in-Some-answer c = let t = (goal.at.loop-used-preserved-in-Some-answer c).In-Some-next_admitted in
     let m = c.in-Some-WireByte in
     rw (
       c.push_wire_byte-received.ensures,
@@ -207,7 +207,7 @@ loop-used-preserved-in-Some-answer c = let t = (goal.at.loop-used-preserved-in-S
     c.print_answer-written-in-Some-answer.auto.out)
 
 pub loop-used-preserved-in-Some-default : goal.loop-used-preserved-in-Some-default
-loop-used-preserved-in-Some-default c = let t = (goal.at.loop-used-preserved-in-Some-default c).In-Some-next_record in
+loop-used-preserved-in-Some-default c = let t = (goal.at.loop-used-preserved-in-Some-default c).In-Some-next_admitted in
     let m = c.in-Some-default in
     rw c.step-stepped.ensures
     (answered t
@@ -217,7 +217,7 @@ loop-used-preserved-in-Some-default c = let t = (goal.at.loop-used-preserved-in-
     c.print_answer-written-in-Some-default.auto.out)
 
 pub loop-used-preserved : goal.loop-used-preserved
-loop-used-preserved c = let t = (goal.at.loop-used-preserved c).In-Some-next_record in
+loop-used-preserved c = let t = (goal.at.loop-used-preserved c).In-Some-next_admitted in
     let s = c.print_called-written in
     rw s.ensures.left
     (answered t (answers-entered (was t) (heard t) _ _ (stands t _ _ c.in-Ok.is refl) (sym c.step-called.ensures)) s.ensures.printed s.auto.out)
@@ -230,8 +230,8 @@ pub returns-else-out-written-ge-LONGEST_LINE : goal.returns-else-out-written-ge-
 returns-else-out-written-ge-LONGEST_LINE c = let f = fed-stop c.loop-used.invariant (omega (arith, c.loop-used.invariant.long)) in
     record { result_value = f.0; out_after = f.1 }
 
-pub returns-in_default-next_record : goal.returns-in_default-next_record
-returns-in_default-next_record c = let l = c.loop-used in
-    let begun = rw (c.in_default-next_record.is, part_left _ l.used) at c.next_record.ensures in
+pub returns-in_default-next_admitted : goal.returns-in_default-next_admitted
+returns-in_default-next_admitted c = let l = c.loop-used in
+    let begun = rw (c.in_default-next_admitted.is, part_left _ l.used) at c.next_admitted.ensures in
     let f = fed-end (feeding-open l.invariant (omega (arith, l.invariant.long, c.if-out-written-ge-LONGEST_LINE.true)) _ begun.0 begun.1) (omega arith) in
     rw (left-as-found c) (record { result_value = f.0; out_after = f.1 })
